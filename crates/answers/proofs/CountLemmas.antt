@@ -11,7 +11,7 @@ use Rattle.tallies.specs.Columns.{ColumnShape, column_of, rows_column, show_colu
 use Rattle.answers.specs.Groups.{is_kept, keys_of, rows_of_key}
 use Rattle.keys.specs.Keys.{key_of, with_keys}
 use Rattle.tallies.specs.declared.column.TallyColumn.{TallyColumn}
-use Rattle.answers.specs.Grouping.{IsGrouped, tables_of}
+use Rattle.answers.specs.Grouping.{IsGrouped, key_tables}
 use Rattle.tallies.specs.Tallies.{counted, item_for}
 use Rattle.keys.proofs.KeyLemmas.{Keys}
 use Rattle.answers.proofs.GroupLemmas.{keys-more}
@@ -28,14 +28,14 @@ all_rows : (rows : Table) → rows_of_key [] rows [] ≡ rows
 all_rows [] = refl
 all_rows (r ∷ rows) = ap (λ (l : Table). r ∷ l) (all_rows rows)
 
-counts : (rows : Table) → map (column_of (tables_of [] rows ([] ∷ []))) (Rows ∷ []) ≡ rows_column (length rows) ∷ []
+counts : (rows : Table) → map (column_of (key_tables [] rows ([] ∷ []))) (Rows ∷ []) ≡ rows_column (length rows) ∷ []
 counts rows =
     ap (λ (t : Table). column_of (t ∷ []) Rows ∷ []) (all_rows rows)
     ∙ ap (λ n. rows_column n ∷ []) (length-map rows (item_for Rows))
 
 pub rows_alone : (rows : Table) (keys : Keys) (columns : List ColumnShape) → IsGrouped [] (Rows ∷ []) rows keys columns → columns ≡ rows_column (length rows) ∷ []
 rows_alone rows keys columns h =
-    h.columns_are ∙ ap (λ (l : Keys). map (column_of (tables_of [] rows l)) (Rows ∷ [])) (h.keys_are ∙ sole_key rows) ∙ counts rows
+    h.columns_are ∙ ap (λ (l : Keys). map (column_of (key_tables [] rows l)) (Rows ∷ [])) (h.keys_are ∙ sole_key rows) ∙ counts rows
 
 pub rows_more : (rows more : Table) (keys : Keys) (columns changed : List ColumnShape) → IsGrouped [] (Rows ∷ []) rows keys columns
     → changed ≡ rows_column (length rows + length more) ∷ [] → IsGrouped [] (Rows ∷ []) (rows ++ more) keys changed
@@ -45,7 +45,7 @@ rows_more rows more keys columns changed h is =
       keys_are = one ∙ sym (sole_key (rows ++ more));
       apart = h.apart;
       columns_are = is ∙ ap (λ n. rows_column n ∷ []) (sym (length-append rows more)) ∙ sym (counts (rows ++ more))
-          ∙ ap (λ (l : Keys). map (column_of (tables_of [] (rows ++ more) l)) (Rows ∷ [])) (sym one);
+          ∙ ap (λ (l : Keys). map (column_of (key_tables [] (rows ++ more) l)) (Rows ∷ [])) (sym one);
     }
 
 -- ---- the column of such a query

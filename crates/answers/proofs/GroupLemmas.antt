@@ -20,7 +20,7 @@ use Rattle.std.proofs.lemmas.Option.{slice_get_within, get_or_from_slice_get}
 use Rattle.indexmap.specs.IndexSet.{insert_key}
 use Rattle.tallies.specs.Columns.{ColumnShape, column_of, show_column, cell_of_group, IsColumnOf}
 use Rattle.keys.specs.Keys.{key_of, AreIds, with_keys}
-use Rattle.answers.specs.Grouping.{IsGrouped, tables_of}
+use Rattle.answers.specs.Grouping.{IsGrouped, key_tables}
 use Rattle.keys.specs.Same.{firsts, same_key}
 use Rattle.tallies.specs.Spread.{padded, put, spread}
 use Rattle.tallies.specs.declared.column.TallyColumn.{TallyColumn}
@@ -96,41 +96,41 @@ none_yet by rows key new =
     (sym (list_any-append (same_key key) (first_keys by) (map (key_of by) rows))
     ∙ sym (among-firsts same_key same_key-Decides (first_keys by ++ map (key_of by) rows) key) ∙ new))
 
-empty_tables : (by : List ℕ) (rows : Table) (extra : Keys) → All (λ k. is_among (keys_of by rows) k ≡ false) extra → tables_of by rows extra ≡ replicate (length extra) []
+empty_tables : (by : List ℕ) (rows : Table) (extra : Keys) → All (λ k. is_among (keys_of by rows) k ≡ false) extra → key_tables by rows extra ≡ replicate (length extra) []
 empty_tables by rows [] h = refl
 empty_tables by rows (k ∷ extra) h =
     let a = none_yet by rows k (All-head (λ k. is_among (keys_of by rows) k ≡ false) k extra h) in
-    let b : tables_of by rows extra ≡ replicate (length extra) [] = empty_tables by rows extra (All-tail (λ k. is_among (keys_of by rows) k ≡ false) k extra h) in
-    ap (λ (t : Table). t ∷ tables_of by rows extra) a ∙ ap (λ (l : List Table). [] ∷ l) b
+    let b : key_tables by rows extra ≡ replicate (length extra) [] = empty_tables by rows extra (All-tail (λ k. is_among (keys_of by rows) k ≡ false) k extra h) in
+    ap (λ (t : Table). t ∷ key_tables by rows extra) a ∙ ap (λ (l : List Table). [] ∷ l) b
 
 pub tables-padded : (by : List ℕ) (rows : Table) (keys more : Keys) → keys ≡ keys_of by rows
-    → padded (length (with_keys keys more)) [] (tables_of by rows keys) ≡ tables_of by rows (with_keys keys more)
+    → padded (length (with_keys keys more)) [] (key_tables by rows keys) ≡ key_tables by rows (with_keys keys more)
 tables-padded by rows keys more are =
     let g = grown keys more in
     let fresh = subst (λ (l : Keys). All (λ k. is_among l k ≡ false) g.extra) are g.fresh in
-    let few : length (with_keys keys more) - length (tables_of by rows keys) ≡ length g.extra =
+    let few : length (with_keys keys more) - length (key_tables by rows keys) ≡ length g.extra =
     omega (arith, ap length g.is, length-append keys g.extra, length-map keys (rows_of_key by rows)) in
-    ap (λ n. tables_of by rows keys ++ replicate n []) few
-    ∙ ap (λ (l : List Table). tables_of by rows keys ++ l) (sym (empty_tables by rows g.extra fresh))
+    ap (λ n. key_tables by rows keys ++ replicate n []) few
+    ∙ ap (λ (l : List Table). key_tables by rows keys ++ l) (sym (empty_tables by rows g.extra fresh))
     ∙ sym (map-append (rows_of_key by rows) keys g.extra)
-    ∙ ap (tables_of by rows) (sym g.is)
+    ∙ ap (key_tables by rows) (sym g.is)
 
 -- ---- numbers of keys
 
 put_row : (by : List ℕ) (rows : Table) (row : Row) (keys : Keys) (n : ℕ) → IsDistinct same_key keys → slice_get keys n ≡ Some (key_of by row)
-    → put n row (tables_of by rows keys) ≡ tables_of by (rows ++ row ∷ []) keys
+    → put n row (key_tables by rows keys) ≡ key_tables by (rows ++ row ∷ []) keys
 put_row by rows row keys n apart at =
     let key = key_of by row in
-    let here : slice_index_or (tables_of by rows keys) n [] ≡ rows_of_key by rows key =
+    let here : slice_index_or (key_tables by rows keys) n [] ≡ rows_of_key by rows key =
     get_or-map (rows_of_key by rows) keys n key [] (slice_get_within keys n key at) ∙ ap (rows_of_key by rows) (get_or_from_slice_get keys n key key at) in
-    set_mapped same_key same_key-Decides (rows_of_key by rows) (rows_of_key by (rows ++ row ∷ [])) (slice_index_or (tables_of by rows keys) n [] ++ row ∷ []) key
+    set_mapped same_key same_key-Decides (rows_of_key by rows) (rows_of_key by (rows ++ row ∷ [])) (slice_index_or (key_tables by rows keys) n [] ++ row ∷ []) key
     (λ k is. rows-push by rows row k false is ∙ append-nil (rows_of_key by rows k))
     (rows-push by rows row key true (same_key_equiv.refl key) ∙ ap (λ (t : Table). t ++ row ∷ []) (sym here))
     keys n apart at
 
 pub spread_rows : (by : List ℕ) (rows more : Table) (keys : Keys) (numbers : List ℕ) → IsDistinct same_key keys → AreIds keys (map (key_of by) more) numbers
-    → spread numbers more (tables_of by rows keys) ≡ tables_of by (rows ++ more) keys
-spread_rows by rows [] keys [] apart h = ap (λ (t : Table). tables_of by t keys) (sym (append-nil rows))
+    → spread numbers more (key_tables by rows keys) ≡ key_tables by (rows ++ more) keys
+spread_rows by rows [] keys [] apart h = ap (λ (t : Table). key_tables by t keys) (sym (append-nil rows))
 spread_rows by rows [] keys (n ∷ numbers) apart h = absurd cc
 spread_rows by rows (row ∷ more) keys [] apart h = absurd cc
 spread_rows by rows (row ∷ more) keys (n ∷ numbers) apart h =
@@ -138,7 +138,7 @@ spread_rows by rows (row ∷ more) keys (n ∷ numbers) apart h =
     let tail : AreIds keys (map (key_of by) more) numbers = cc in
     ap (spread numbers more) (put_row by rows row keys n apart head)
     ∙ spread_rows by (rows ++ row ∷ []) more keys numbers apart tail
-    ∙ ap (λ (t : Table). tables_of by t keys) (append_assoc rows (row ∷ []) more)
+    ∙ ap (λ (t : Table). key_tables by t keys) (append_assoc rows (row ∷ []) more)
 
 -- ---- columns
 
@@ -174,18 +174,18 @@ same_aggs tables others (a ∷ aggs) (c ∷ cs) h =
 rows-le : (by : List ℕ) (rows : Table) (key : List Item) → length (rows_of_key by rows key) ≤ length rows
 rows-le by rows key = omega (arith, length-filter (λ (r : Row). same_key key (key_of by r)) rows, count_by-le-length (λ (r : Row). same_key key (key_of by r)) rows)
 
-pub tables_short : (by : List ℕ) (rows : Table) (keys : Keys) (n total : ℕ) → length rows + n ≤ total → All (λ t. length t + n ≤ total) (tables_of by rows keys)
+pub tables_short : (by : List ℕ) (rows : Table) (keys : Keys) (n total : ℕ) → length rows + n ≤ total → All (λ t. length t + n ≤ total) (key_tables by rows keys)
 tables_short by rows [] n total h = All-nil (λ (t : Table). length t + n ≤ total)
 tables_short by rows (k ∷ keys) n total h =
-    All-cons (λ (t : Table). length t + n ≤ total) (rows_of_key by rows k) (tables_of by rows keys) (omega (arith, h, rows-le by rows k)) (tables_short by rows keys n total h)
+    All-cons (λ (t : Table). length t + n ≤ total) (rows_of_key by rows k) (key_tables by rows keys) (omega (arith, h, rows-le by rows k)) (tables_short by rows keys n total h)
 
 pub grouped_more : (by : List ℕ) (aggs : List (Agg ℕ)) (rows more : Table) (keys new : Keys) (columns changed : List ColumnShape) (numbers : List ℕ)
     → IsGrouped by aggs rows keys columns → new ≡ with_keys keys (map (key_of by) more) → AreIds new (map (key_of by) more) numbers
-    → changed ≡ map (column_of (spread numbers more (padded (length new) [] (tables_of by rows keys)))) aggs → IsGrouped by aggs (rows ++ more) new changed
+    → changed ≡ map (column_of (spread numbers more (padded (length new) [] (key_tables by rows keys)))) aggs → IsGrouped by aggs (rows ++ more) new changed
 grouped_more by aggs rows more keys new columns changed numbers h is at changes =
     let apart : IsDistinct same_key new = subst (IsDistinct same_key) (sym is) (distinct-more keys (map (key_of by) more) h.apart) in
-    let tables : padded (length new) [] (tables_of by rows keys) ≡ tables_of by rows new =
-    ap (λ (l : Keys). padded (length l) [] (tables_of by rows keys)) is ∙ tables-padded by rows keys (map (key_of by) more) h.keys_are ∙ ap (tables_of by rows) (sym is) in
+    let tables : padded (length new) [] (key_tables by rows keys) ≡ key_tables by rows new =
+    ap (λ (l : Keys). padded (length l) [] (key_tables by rows keys)) is ∙ tables-padded by rows keys (map (key_of by) more) h.keys_are ∙ ap (key_tables by rows) (sym is) in
     record {
       keys_are = is ∙ ap (λ (l : Keys). with_keys l (map (key_of by) more)) h.keys_are ∙ sym (keys-more by rows more);
       apart = apart;
@@ -223,10 +223,10 @@ pub group_reported : (by : List ℕ) (aggs : List (Agg ℕ)) (rows : Table) (key
     → slice_get keys n ≡ Some k → make k (map (cell_of_group n) columns) ≡ group_of by aggs rows k
 group_reported by aggs rows keys columns n k h at =
     let below : n < length keys = slice_get_within keys n k at in
-    let here : rows_of_key by rows k ≡ get_or (tables_of by rows keys) n (rows_of_key by rows k) =
+    let here : rows_of_key by rows k ≡ get_or (key_tables by rows keys) n (rows_of_key by rows k) =
     sym (get_or-map (rows_of_key by rows) keys n k (rows_of_key by rows k) below ∙ ap (rows_of_key by rows) (get_or_from_slice_get keys n k k at)) in
     ap (make k) (ap (map (cell_of_group n)) h.columns_are
-    ∙ all_reported (tables_of by rows keys) n (rows_of_key by rows k) aggs (omega (arith, below, length-map keys (rows_of_key by rows))) here)
+    ∙ all_reported (key_tables by rows keys) n (rows_of_key by rows k) aggs (omega (arith, below, length-map keys (rows_of_key by rows))) here)
 
 pub reported_more : (by : List ℕ) (aggs : List (Agg ℕ)) (rows : Table) (keys : Keys) (columns : List ColumnShape) (n : ℕ) (k cells : List Item) (front new : List GroupShape) → IsGrouped by aggs rows keys columns
     → slice_get keys n ≡ Some k → cells ≡ map (cell_of_group n) columns → front ≡ take n (grouped by aggs rows)
@@ -252,14 +252,14 @@ reported_whole by aggs rows keys columns n h past =
 pub as_long : (by : List ℕ) (aggs : List (Agg ℕ)) (rows : Table) (keys : Keys) (cs : List TallyColumn) → IsGrouped by aggs rows keys (map show_column cs)
     → All (λ c. length (show_column c).tallies ≡ length keys) cs
 as_long by aggs rows keys cs h = long aggs cs h.columns_are where
-  long : (ags : List (Agg ℕ)) (cs : List TallyColumn) → map show_column cs ≡ map (column_of (tables_of by rows keys)) ags → All (λ c. length (show_column c).tallies ≡ length keys) cs
+  long : (ags : List (Agg ℕ)) (cs : List TallyColumn) → map show_column cs ≡ map (column_of (key_tables by rows keys)) ags → All (λ c. length (show_column c).tallies ≡ length keys) cs
   long ags [] e = All-nil (λ (c : TallyColumn). length (show_column c).tallies ≡ length keys)
   long [] (c ∷ cs) e = absurd cc
   long (a ∷ ags) (c ∷ cs) e =
-      let head : show_column c ≡ column_of (tables_of by rows keys) a = cc in
-      let tail : map show_column cs ≡ map (column_of (tables_of by rows keys)) ags = cc in
+      let head : show_column c ≡ column_of (key_tables by rows keys) a = cc in
+      let tail : map show_column cs ≡ map (column_of (key_tables by rows keys)) ags = cc in
       All-cons (λ (c : TallyColumn). length (show_column c).tallies ≡ length keys) c cs
-      (ap (λ (s : ColumnShape). length s.tallies) head ∙ length-map (tables_of by rows keys) (λ (t : Table). tally_of a (items_for a t)) ∙ length-map keys (rows_of_key by rows))
+      (ap (λ (s : ColumnShape). length s.tallies) head ∙ length-map (key_tables by rows keys) (λ (t : Table). tally_of a (items_for a t)) ∙ length-map keys (rows_of_key by rows))
       (long ags cs tail)
 
 -- ---- no rows

@@ -10,7 +10,7 @@ use Rattle.query.specs.declared.expr.Agg.TheVariants as agg
 use Rattle.tallies.specs.Columns.{ColumnShape, column_of, show_column}
 use Rattle.keys.specs.Keys.{key_of}
 use Rattle.answers.specs.Groups.{keys_of, rows_of_key}
-use Rattle.answers.specs.Grouping.{HasGroups, tables_of}
+use Rattle.answers.specs.Grouping.{HasGroups, key_tables}
 use Rattle.tallies.specs.Kinds.{AreComparable, IsComparable}
 use Rattle.tallies.specs.Merging.{AreAlike}
 use Rattle.keys.specs.Same.{same_key}
@@ -25,19 +25,19 @@ use Rattle.keys.proofs.KeyLemmas.{Keys}
 abbrev Alike : (ℕ → Kind) → Agg ℕ → Table → Type 0
 Alike kinds a t = All (IsComparable kinds a) (items_for a t)
 
-pub keys_alike : (kinds : ℕ → Kind) (a : Agg ℕ) (by : List ℕ) (rows : Table) (keys : Keys) → All (λ row. IsComparable kinds a (item_for a row)) rows → AreAlike kinds (tables_of by rows keys) a
+pub keys_alike : (kinds : ℕ → Kind) (a : Agg ℕ) (by : List ℕ) (rows : Table) (keys : Keys) → All (λ row. IsComparable kinds a (item_for a row)) rows → AreAlike kinds (key_tables by rows keys) a
 keys_alike kinds a by rows [] h = All-nil (Alike kinds a)
 keys_alike kinds a by rows (k ∷ keys) h =
-    All-cons (Alike kinds a) (rows_of_key by rows k) (tables_of by rows keys)
+    All-cons (Alike kinds a) (rows_of_key by rows k) (key_tables by rows keys)
     (All-map (IsComparable kinds a) (item_for a) (rows_of_key by rows k)
     (All-filter (λ (r : Row). same_key k (key_of by r)) (λ (row : Row). IsComparable kinds a (item_for a row)) rows h))
     (keys_alike kinds a by rows keys h)
 
-pub aggs_alike : (kinds : ℕ → Kind) (aggs : List (Agg ℕ)) (by : List ℕ) (rows : Table) (keys : Keys) → All (AreComparable kinds aggs) rows → All (AreAlike kinds (tables_of by rows keys)) aggs
-aggs_alike kinds [] by rows keys h = All-nil (AreAlike kinds (tables_of by rows keys))
+pub aggs_alike : (kinds : ℕ → Kind) (aggs : List (Agg ℕ)) (by : List ℕ) (rows : Table) (keys : Keys) → All (AreComparable kinds aggs) rows → All (AreAlike kinds (key_tables by rows keys)) aggs
+aggs_alike kinds [] by rows keys h = All-nil (AreAlike kinds (key_tables by rows keys))
 aggs_alike kinds (a ∷ aggs) by rows keys h =
     let P : Agg ℕ → Row → Type 0 = λ b row. IsComparable kinds b (item_for b row) in
-    All-cons (AreAlike kinds (tables_of by rows keys)) a aggs
+    All-cons (AreAlike kinds (key_tables by rows keys)) a aggs
     (keys_alike kinds a by rows keys (All-weaker (AreComparable kinds (a ∷ aggs)) (P a) (λ row all. All-head (λ b. P b row) a aggs all) rows h))
     (aggs_alike kinds aggs by rows keys (All-weaker (AreComparable kinds (a ∷ aggs)) (AreComparable kinds aggs) (λ row all. All-tail (λ b. P b row) a aggs all) rows h))
 

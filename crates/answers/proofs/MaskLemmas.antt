@@ -17,7 +17,7 @@ use Rattle.arrays.specs.Seen.{Seen, valid_at, valid_in}
 use Rattle.arrays.specs.Values.{HasBits}
 use Rattle.arrays.specs.Slot.{item_at}
 use Rattle.answers.specs.Masks.{is_set, ones_of, set_rows}
-use Rattle.answers.specs.Runs.{is_true}
+use Rattle.answers.specs.Runs.{keeps_item}
 
 -- ---- numbers that a test passes
 
@@ -176,20 +176,20 @@ all-ones xs len w ones word is end before last = omega (arith, before, last, one
 
 -- ---- a view of truth values
 
-set_item : (s : Seen) (bits : List Bool) (i : ℕ) → HasBits bits s → i < length s.items → is_set s.validity bits i ≡ is_true (item_at s.items i)
+set_item : (s : Seen) (bits : List Bool) (i : ℕ) → HasBits bits s → i < length s.items → is_set s.validity bits i ≡ keeps_item (item_at s.items i)
 set_item s bits i has below =
     let slot : ℕ → Item = λ j. cond (valid_at s j) (boolean (bit_of bits j)) null in
-    sym (ap (λ items. is_true (item_at items i)) has.values
-    ∙ ap is_true (get_or-map-range_with_len slot 0 (length s.items) i i null below (zero-add i))
+    sym (ap (λ items. keeps_item (item_at items i)) has.values
+    ∙ ap keeps_item (get_or-map-range_with_len slot 0 (length s.items) i i null below (zero-add i))
     ∙ by (valid_at s i) (bit_of bits i))
   where
-    by : (v b : Bool) → is_true (cond v (boolean b) null) ≡ (v && b)
+    by : (v b : Bool) → keeps_item (cond v (boolean b) null) ≡ (v && b)
     by true b = refl
     by false b = refl
 
 pub set_items : (s : Seen) (bits : List Bool) → HasBits bits s
-    → set_rows s.validity bits ≡ filter (λ i. is_true (item_at s.items i)) (range_with_len 0 (length s.items))
+    → set_rows s.validity bits ≡ filter (λ i. keeps_item (item_at s.items i)) (range_with_len 0 (length s.items))
 set_items s bits has =
     ap (λ n. filter (is_set s.validity bits) (range_with_len 0 n)) has.size
-    ∙ filter-same (is_set s.validity bits) (λ i. is_true (item_at s.items i)) 0 (length s.items)
+    ∙ filter-same (is_set s.validity bits) (λ i. keeps_item (item_at s.items i)) 0 (length s.items)
     (λ i low high. set_item s bits i has (omega (arith, high)))

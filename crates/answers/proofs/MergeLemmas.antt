@@ -14,7 +14,7 @@ use Rattle.arrays.specs.Batch.{Row, Table}
 use Rattle.arrays.specs.Item.{Item}
 use Rattle.query.specs.declared.expr.Agg.{Agg}
 use Rattle.tallies.specs.Columns.{ColumnShape, column_of}
-use Rattle.answers.specs.Grouping.{IsGrouped, tables_of}
+use Rattle.answers.specs.Grouping.{IsGrouped, key_tables}
 use Rattle.keys.specs.Keys.{key_of, AreIds, with_keys}
 use Rattle.answers.specs.Groups.{keys_of, rows_of_key}
 use Rattle.tallies.specs.Merging.{put_all, spread_all}
@@ -118,7 +118,7 @@ spread_mapped g f new (k ∷ ks) (n ∷ numbers) apart once h =
     ∙ mapped-same (joined g next ks) (joined g f (k ∷ ks)) new (λ x. joined_first g f k ks x (not_among k ks (IsDistinct-head same_key k ks once)))
 
 pub tables-merged : (by : List ℕ) (rows more : Table) (new ks : Keys) (numbers : List ℕ) → IsDistinct same_key new → IsDistinct same_key ks → ks ≡ keys_of by more
-    → AreIds new ks numbers → spread_all numbers (tables_of by more ks) (tables_of by rows new) ≡ tables_of by (rows ++ more) new
+    → AreIds new ks numbers → spread_all numbers (key_tables by more ks) (key_tables by rows new) ≡ key_tables by (rows ++ more) new
 tables-merged by rows more new ks numbers apart once are h =
     spread_mapped (rows_of_key by more) (rows_of_key by rows) new ks numbers apart once h
     ∙ mapped-same (joined (rows_of_key by more) (rows_of_key by rows) ks) (rows_of_key by (rows ++ more)) new (λ x.
@@ -134,14 +134,14 @@ module _ (by : List ℕ) (aggs : List (Agg ℕ)) (rows more : Table) (keys ks ne
   new_apart : IsDistinct same_key new
   new_apart = subst (IsDistinct same_key) (sym is) (distinct-more keys ks a.apart)
 
-  pub spread_tables : spread_all numbers (tables_of by more ks) (padded (length new) [] (tables_of by rows keys)) ≡ tables_of by (rows ++ more) new
+  pub spread_tables : spread_all numbers (key_tables by more ks) (padded (length new) [] (key_tables by rows keys)) ≡ key_tables by (rows ++ more) new
   spread_tables =
-      ap (spread_all numbers (tables_of by more ks))
-      (ap (λ (l : Keys). padded (length l) [] (tables_of by rows keys)) is ∙ tables-padded by rows keys ks a.keys_are ∙ ap (tables_of by rows) (sym is))
+      ap (spread_all numbers (key_tables by more ks))
+      (ap (λ (l : Keys). padded (length l) [] (key_tables by rows keys)) is ∙ tables-padded by rows keys ks a.keys_are ∙ ap (key_tables by rows) (sym is))
       ∙ tables-merged by rows more new ks numbers new_apart b.apart b.keys_are at
 
   -- The groups of the rows, and those of the rows behind them whose keys have these numbers, are together the groups of all.
-  pub groups-merged : (changed : List ColumnShape) → changed ≡ map (column_of (spread_all numbers (tables_of by more ks) (padded (length new) [] (tables_of by rows keys)))) aggs
+  pub groups-merged : (changed : List ColumnShape) → changed ≡ map (column_of (spread_all numbers (key_tables by more ks) (padded (length new) [] (key_tables by rows keys)))) aggs
       → IsGrouped by aggs (rows ++ more) new changed
   groups-merged changed changes = record {
     keys_are = is ∙ ap (λ (l : Keys). with_keys l ks) a.keys_are ∙ ap (with_keys (keys_of by rows)) b.keys_are ∙ sym (keys-merged by rows more);

@@ -17,11 +17,11 @@ use Rattle.evaluate.specs.declared.stop.Stop.TheVariants.{Bad, NoMemory}
 use Rattle.evaluate.specs.declared.values.Values.{Values}
 use Rattle.answers.specs.Groups.{is_bad, is_kept, verdict, verdict_of}
 use Rattle.keys.proofs.SameLemmas.{either}
-use Rattle.answers.specs.Runs.{AreVerdicts, IsBadRow, StopsAt, is_true, keeps, kept_in, rows_in}
+use Rattle.answers.specs.Runs.{AreVerdicts, IsBadRow, StopsAt, keeps_item, keeps, kept_in, rows_in}
 
 -- ---- the filter
 
-decided : (x : Item) → verdict_of (Some x) ≡ Some (is_true x)
+decided : (x : Item) → verdict_of (Some x) ≡ Some (keeps_item x)
 decided null = refl
 decided (int z) = refl
 decided (boolean b) = refl

@@ -10,8 +10,8 @@ use Rattle.answers.specs.declared.groups.Answer.{Answer}
 use Rattle.answers.specs.declared.groups.Group.{Group}
 use Rattle.group.specs.Scalars.{item_of_scalar}
 
-abbrev pub shape_of : Group → GroupShape
-shape_of g = record { keys = map item_of_scalar g.keys.items; cells = map item_of_scalar g.cells.items }
+abbrev pub group_shape : Group → GroupShape
+group_shape g = record { keys = map item_of_scalar g.keys.items; cells = map item_of_scalar g.cells.items }
 
 -- The rows of all batches, one batch after the other.
 abbrev pub all_rows : List Batch → Table
@@ -24,7 +24,7 @@ first_fields (b ∷ batches) = b.fields
 
 -- The answer says what the query asks of the rows.
 abbrev pub IsAnswer : List FieldShape → QueryShape ℕ → Table → Answer → Type 0
-IsAnswer fields q rows a = groups fields q rows ≡ Ok (map shape_of a.groups.items)
+IsAnswer fields q rows a = groups fields q rows ≡ Ok (map group_shape a.groups.items)
 
 -- The query is refused at the least row where its filter is bad, or a growth was refused.
 abbrev pub IsRefusal : List FieldShape → QueryShape ℕ → Table → QueryFault → Type 0

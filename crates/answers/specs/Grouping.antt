@@ -13,14 +13,14 @@ use Rattle.tallies.specs.Columns.{ColumnShape, column_of, show_column, cell_of_g
 use Rattle.answers.specs.declared.grouping.Grouping.{Grouping}
 
 -- The rows of each key.
-abbrev pub tables_of : List ℕ → Table → List (List Item) → List Table
-tables_of by rows keys = map (rows_of_key by rows) keys
+abbrev pub key_tables : List ℕ → Table → List (List Item) → List Table
+key_tables by rows keys = map (rows_of_key by rows) keys
 
 -- The keys of the rows, each once, and of each aggregate a tally of the rows of each key.
 pub record IsGrouped (by : List ℕ) (aggs : List (Agg ℕ)) (rows : Table) (keys : List (List Item)) (columns : List ColumnShape) : Type 0 where
   pub keys_are : keys ≡ keys_of by rows
   pub apart : IsDistinct same_key keys
-  pub columns_are : columns ≡ map (column_of (tables_of by rows keys)) aggs
+  pub columns_are : columns ≡ map (column_of (key_tables by rows keys)) aggs
 
 -- The groups of the rows, and what is remembered of their keys is true.
 abbrev pub HasGroups : Query → Table → Grouping → Type 0
@@ -31,8 +31,8 @@ abbrev pub IsReadyFor : Batch → Query → Grouping → Type 0
 IsReadyFor b q g = KnowsEntries g.keys b q.by.items g.memo
 
 -- There are so many rows more than have come, and together no more than a table may have.
-abbrev pub HasRoom : Query → ℕ → Grouping → Type 0
-HasRoom q n g = (rows : Table) × (length rows + n ≤ 2 ^ 40) × HasGroups q rows g
+abbrev pub HasGroupRoom : Query → ℕ → Grouping → Type 0
+HasGroupRoom q n g = (rows : Table) × (length rows + n ≤ 2 ^ 40) × HasGroups q rows g
 
 -- The query only asks how many rows are kept.
 pub record CountsRows (q : Query) : Type 0 where

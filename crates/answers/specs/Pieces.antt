@@ -60,26 +60,26 @@ pub record AreNeighbours (fields : List FieldShape) (q : Query) (rows : Table) (
 
 -- ---- what is scanned
 
-abbrev pub batches_of : {G : Type 0} → Scan G → List Batch
-batches_of s = map arc_value s.batches.now
+abbrev pub scan_batches : {G : Type 0} → Scan G → List Batch
+scan_batches s = map arc_value s.batches.now
 
-abbrev pub fields_of : {G : Type 0} → Scan G → List FieldShape
-fields_of s = first_fields (batches_of s)
+abbrev pub scan_fields : {G : Type 0} → Scan G → List FieldShape
+scan_fields s = first_fields (scan_batches s)
 
-abbrev pub rows_of : {G : Type 0} → Scan G → Table
-rows_of s = all_rows (batches_of s)
+abbrev pub scan_rows : {G : Type 0} → Scan G → Table
+scan_rows s = all_rows (scan_batches s)
 
 -- The same of a scan's pieces.
 abbrev pub ArePieces : {G : Type 0} → Scan G → ℕ → ℕ → Result Grouping QueryFault → Type 0
-ArePieces s from to r = AreLooked (fields_of s) s.query.now (rows_of s) s.cuts.pieces from to r
+ArePieces s from to r = AreLooked (scan_fields s) s.query.now (scan_rows s) s.cuts.pieces from to r
 
 -- The batches are of the same types, the query fits each of them, and their items can be compared. There are so many rows as are cut, no
 -- more than a table may have, and from 1 to 64 pieces.
 pub record IsScan {G : Type 0} (s : Scan G) : Type 0 where
-  pub types : All (λ (b : Batch). map kind_of_field b.fields ≡ map kind_of_field (fields_of s)) (batches_of s)
-  pub fits : All (λ (b : Batch). fits b.fields (query_shape s.query.now) ≡ true) (batches_of s)
-  pub comparable : All (AreComparable (kind_at (fields_of s)) s.query.now.aggs.items) (rows_of s)
-  pub counted : s.cuts.rows ≡ length (rows_of s)
-  pub few : length (rows_of s) ≤ 2 ^ 40
+  pub types : All (λ (b : Batch). map kind_of_field b.fields ≡ map kind_of_field (scan_fields s)) (scan_batches s)
+  pub fits : All (λ (b : Batch). fits b.fields (query_shape s.query.now) ≡ true) (scan_batches s)
+  pub comparable : All (AreComparable (kind_at (scan_fields s)) s.query.now.aggs.items) (scan_rows s)
+  pub counted : s.cuts.rows ≡ length (scan_rows s)
+  pub few : length (scan_rows s) ≤ 2 ^ 40
   pub one : 1 ≤ s.cuts.pieces
   pub most : s.cuts.pieces ≤ 64

@@ -17,12 +17,12 @@ use Rattle.answers.specs.Grouping.{HasGroups}
 use Rattle.answers.specs.declared.grouping.Grouping.{Grouping}
 
 -- Only what is true keeps a row; without a filter each row is kept.
-abbrev pub is_true : Item → Bool
-is_true x = unwrap_or (verdict_of (Some x)) false
+abbrev pub keeps_item : Item → Bool
+keeps_item x = unwrap_or (verdict_of (Some x)) false
 
 abbrev pub keeps : Option Values → ℕ → Bool
 keeps None i = true
-keeps (Some v) i = is_true (item_in v i)
+keeps (Some v) i = keeps_item (item_in v i)
 
 -- The places of the rows of a slice that are kept.
 abbrev pub kept_in : Option Values → ℕ → ℕ → List ℕ
@@ -61,5 +61,5 @@ abbrev pub HasKept : List FieldShape → Query → Table → Grouping → Type 0
 HasKept fields q rows g = HasGroups q (filter (is_kept fields (query_shape q).filter) rows) g
 
 -- There are so many rows more than have come, and together no more than a table may have.
-abbrev pub HasRoomFor : List FieldShape → Query → ℕ → Grouping → Type 0
-HasRoomFor fields q n g = (rows : Table) × (length rows + n ≤ 2 ^ 40) × HasKept fields q rows g
+abbrev pub HasRowRoom : List FieldShape → Query → ℕ → Grouping → Type 0
+HasRowRoom fields q n g = (rows : Table) × (length rows + n ≤ 2 ^ 40) × HasKept fields q rows g

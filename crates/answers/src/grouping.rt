@@ -7,7 +7,7 @@ ghost use Rattle.query.specs.QueryShape.{query_shape};
 ghost use Rattle.query.specs.Columns.{sort_at};
 ghost use Rattle.query.specs.Fault.{agg_fault, fits};
 ghost use Rattle.tallies.specs.Columns.{column_of, show_column, IsColumnOf};
-ghost use Rattle.answers.specs.Grouping.{CountsRows, HasGroups, HasRoom, IsReadyFor};
+ghost use Rattle.answers.specs.Grouping.{CountsRows, HasGroups, HasGroupRoom, IsReadyFor};
 ghost use Rattle.tallies.specs.Kinds.{AreComparable};
 ghost use Rattle.tallies.specs.Merging.{AreAlike, spread_all};
 ghost use Rattle.tallies.specs.Spread.{padded, spread};
@@ -73,7 +73,7 @@ impl<'a> Grouping<'a> {
     ) -> Result<(), NoMemory>
         requires fits { fits batch.now.fields (query_shape query.now) ≡ true }
         requires within { All (λ r. r < batch.now.rows) rows.now }
-        requires room { HasRoom query.now (length rows.now) self.old }
+        requires room { HasGroupRoom query.now (length rows.now) self.old }
         requires ready { IsReadyFor batch.now query.now self.old }
         ensures ready { OnOk result (IsReadyFor batch.now query.now self.new) }
         ensures groups { (rows_before : Table) → HasGroups query.now rows_before self.old
@@ -95,7 +95,7 @@ impl<'a> Grouping<'a> {
     /// Adds so many rows, where they are only counted, all together.
     pub(crate) fn add_count(&mut self, query: &Query, rows: u64)
         requires alone { CountsRows query.now }
-        requires room { HasRoom query.now rows self.old }
+        requires room { HasGroupRoom query.now rows self.old }
         ensures groups { (before more : Table) → length more ≡ rows → HasGroups query.now before self.old
             → HasGroups query.now (before ++ more) self.new }
         ensures ready { (b : Batch) → IsReadyFor b query.now self.old → IsReadyFor b query.now self.new }

@@ -6,7 +6,7 @@ ghost use Rattle.colbits.specs.Bit.{bit_in};
 ghost use Rattle.arrays.specs.Kind as kind;
 ghost use Rattle.arrays.specs.Slot.{item_at};
 ghost use Rattle.answers.specs.Masks.{is_set, ones_of, set_rows};
-ghost use Rattle.answers.specs.Runs.{is_true};
+ghost use Rattle.answers.specs.Runs.{keeps_item};
 
 use arrays::validity::valid_word;
 use arrays::{Bools, View};
@@ -16,7 +16,7 @@ use colbits::NoMemory;
 pub(crate) fn of<'a>(view: &View<'a>) -> Bools<'a>
     requires { view.now.kind ≡ kind.boolean }
     ensures rows { set_rows result.validity result.values
-        ≡ filter (λ i. is_true (item_at view.now.items i)) (range_with_len 0 (length view.now.items)) }
+        ≡ filter (λ i. keeps_item (item_at view.now.items i)) (range_with_len 0 (length view.now.items)) }
     ensures size { length result.values ≡ length view.now.items }
 {
     view.bools()

@@ -3,7 +3,7 @@
 ghost use Rattle.std.specs.Prelude.{◌≡◌, ◌+◌, ◌<◌, ◌≤◌, ◌-◌, IfErr, IfOk, min};
 ghost use Rattle.std.specs.Thread.{IsSync};
 ghost use Rattle.query.specs.QueryShape.{query_shape};
-ghost use Rattle.answers.specs.Pieces.{ArePieces, HasRun, IsScan, IsPieceRefusal, between, fields_of, rows_of};
+ghost use Rattle.answers.specs.Pieces.{ArePieces, HasRun, IsScan, IsPieceRefusal, between, scan_fields, scan_rows};
 
 use crate::grouping::Grouping;
 use crate::neighbours::{Looked, Neighbours};
@@ -20,9 +20,9 @@ use std::thread::{Threads, join};
 fn look_at_rows<'a, G: Gate>(scan: &Scan<'a, '_, G>, from: u64, to: u64) -> Looked<'a>
     requires scan { IsScan scan.now }
     requires order { from ≤ to }
-    ensures ok { IfOk result (HasRun (fields_of scan.now) scan.now.query.now (between from to (rows_of scan.now))) }
-    ensures err { IfErr result (IsPieceRefusal (fields_of scan.now) (query_shape scan.now.query.now).filter from
-        (between from to (rows_of scan.now))) }
+    ensures ok { IfOk result (HasRun (scan_fields scan.now) scan.now.query.now (between from to (scan_rows scan.now))) }
+    ensures err { IfErr result (IsPieceRefusal (scan_fields scan.now) (query_shape scan.now.query.now).filter from
+        (between from to (scan_rows scan.now))) }
 {
     let mut grouping = Grouping::new(scan.alloc, scan.query, scan.common)?;
     let mut kept = Vec::new(scan.alloc);

@@ -5,7 +5,7 @@ ghost use Rattle.arrays.specs.Batch.{Table};
 ghost use Rattle.query.specs.QueryShape.{query_shape};
 ghost use Rattle.query.specs.Fault.{fits};
 ghost use Rattle.answers.specs.Grouping.{CountsRows, IsReadyFor};
-ghost use Rattle.answers.specs.Runs.{AreSound, HasKept, HasRoomFor, StopsAt, rows_in};
+ghost use Rattle.answers.specs.Runs.{AreSound, HasKept, HasRowRoom, StopsAt, rows_in};
 
 use crate::filter::{count_rows, filter_values, keep_rows};
 use crate::grouping::Grouping;
@@ -38,7 +38,7 @@ pub(crate) fn add_part<G: Gate>(
 ) -> Result<(), Stop>
     requires fits { fits batch.now.fields (query_shape scan.now.query.now) ≡ true }
     requires within { start + rows ≤ batch.now.rows }
-    requires room { HasRoomFor batch.now.fields scan.now.query.now rows grouping.old }
+    requires room { HasRowRoom batch.now.fields scan.now.query.now rows grouping.old }
     ensures ok { (before : Table) → HasKept batch.now.fields scan.now.query.now before grouping.old
         → OnOk result (HasKept batch.now.fields scan.now.query.now (before ++ rows_in batch.now start rows) grouping.new) }
     ensures sound { IfOk result (λ done. AreSound batch.now start rows (query_shape scan.now.query.now).filter) }
@@ -101,7 +101,7 @@ fn add_slice(
 ) -> Result<(), Stop>
     requires fits { fits slice.batch.now.fields (query_shape query.now) ≡ true }
     requires short { slice.start + slice.len < 2 ^ 40 }
-    requires room { HasRoomFor slice.batch.now.fields query.now slice.len grouping.old }
+    requires room { HasRowRoom slice.batch.now.fields query.now slice.len grouping.old }
     requires ready { IsReadyFor slice.batch.now query.now grouping.old }
     ensures ready { OnOk result (IsReadyFor slice.entry.batch.now query.now grouping.new) }
     ensures ok { let b = slice.entry.batch.now in

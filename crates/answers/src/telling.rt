@@ -3,7 +3,7 @@
 ghost use Rattle.std.specs.Prelude.{◌≡◌, ◌-◌, ◌<◌, ◌≤◌, All, IfOk, length, map};
 ghost use Rattle.std.specs.Thread.{IsSync};
 ghost use Rattle.group.specs.Scalars.{item_of_scalar};
-ghost use Rattle.answers.specs.Answers.{shape_of};
+ghost use Rattle.answers.specs.Answers.{group_shape};
 ghost use Rattle.tallies.specs.Columns.{show_column, cell_of_group};
 ghost use Rattle.answers.specs.Grouping.{IsFull, groups_from};
 
@@ -32,7 +32,7 @@ pub(crate) fn tell_groups<T: Threads + Sync>(
     requires order { from ≤ to }
     requires within { to ≤ length grouping.now.keys }
     requires full { IsFull grouping.now }
-    ensures { IfOk result (λ v. map shape_of v.items ≡ groups_from grouping.now from (to - from)) }
+    ensures { IfOk result (λ v. map group_shape v.items ≡ groups_from grouping.now from (to - from)) }
 {
     let count = to - from;
     if count <= FEW_GROUPS || parts <= 1 {
@@ -43,11 +43,11 @@ pub(crate) fn tell_groups<T: Threads + Sync>(
     let middle = to - share_of(count, parts);
     let front = move || -> Result<Vec<Group>, NoMemory>
         requires { IsSync T.row × (from ≤ middle) × (middle ≤ length grouping.now.keys) × IsFull grouping.now }
-        ensures { IfOk result (λ v. map shape_of v.items ≡ groups_from grouping.entry.now from (middle - from)) }
+        ensures { IfOk result (λ v. map group_shape v.items ≡ groups_from grouping.entry.now from (middle - from)) }
     { tell_groups(threads, alloc, grouping, from, middle, more) };
     let back = move || -> Result<Vec<Group>, NoMemory>
         requires { IsSync T.row × (middle ≤ to) × (to ≤ length grouping.now.keys) × IsFull grouping.now }
-        ensures { IfOk result (λ v. map shape_of v.items ≡ groups_from grouping.entry.now middle (to - middle)) }
+        ensures { IfOk result (λ v. map group_shape v.items ≡ groups_from grouping.entry.now middle (to - middle)) }
     { tell_groups(threads, alloc, grouping, middle, to, fewer) };
     let (late, early) = join(threads, back, front);
     let mut groups = early?;
@@ -65,7 +65,7 @@ pub(crate) fn tell_in_turn(
     requires order { from ≤ to }
     requires within { to ≤ length grouping.now.keys }
     requires full { IsFull grouping.now }
-    ensures { IfOk result (λ v. map shape_of v.items ≡ groups_from grouping.now from (to - from)) }
+    ensures { IfOk result (λ v. map group_shape v.items ≡ groups_from grouping.now from (to - from)) }
 {
     let mut groups = Vec::with_capacity(alloc, to - from)?;
     for id in from..to {

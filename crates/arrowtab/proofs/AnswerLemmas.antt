@@ -6,7 +6,7 @@ use Rattle.arrays.specs.File.{File}
 use Rattle.arrays.specs.Shape.{FieldShape, field_of}
 use Rattle.json_read.specs.JsonField.{IsFieldText}
 use Rattle.json_read.specs.JsonFile.{file_of}
-use Rattle.job.specs.Jobs.{text_of}
+use Rattle.job.specs.Jobs.{text_of_query}
 use Rattle.job.specs.declared.jobs.Command.{Command}
 use Rattle.job.specs.declared.jobs.Command.TheVariants as command
 use Rattle.job.specs.declared.jobs.Job.{Job}
@@ -19,12 +19,12 @@ use Rattle.table.specs.declared.refusal.Refusal.{Refusal}
 use Rattle.arrowtab.specs.Column.{IsColumn, column_text, fields_with, history_with}
 use Rattle.arrowtab.specs.Explained.{Explains, ExplainsColumn, ExplainsFiles, ExplainsText}
 use Rattle.arrowtab.specs.Loaded.{IsLoaded, IsStopped}
-use Rattle.reports.specs.FileBatches.{FileBatch, batches_of}
+use Rattle.reports.specs.FileBatches.{FileBatch, batches_with_fields}
 use Rattle.arrowtab.specs.Output.{Prints, PrintsNothing}
 use Rattle.arrowtab.specs.Run.{Answers, AreRead, Inputs, Refuses, RefusesQuery}
 use Rattle.reports.specs.FileBatches.{table_fields}
 use Rattle.arrowtab.specs.Wanted.{IsColumnUnread, IsRequest, IsUnread, IsWanted, PrintsWanted, RefusesWanted}
-use Rattle.arrowtab.specs.Worked.{IsRefusedOver, Shows, StopsColumn, StopsWanted, listed}
+use Rattle.arrowtab.specs.Worked.{IsRefusedOver, Shows, StopsAddingColumn, StopsWanted, listed}
 use Rattle.reports.specs.FileBatches.{batch_of}
 use Rattle.reports.specs.QueryFaults.{IsUnreadQuery}
 use Rattle.reports.proofs.FileLemmas.{AreKept, data_of, file-listed}
@@ -39,10 +39,10 @@ use Rattle.arrowtab.specs.declared.wanted.Wanted.{Wanted}
 
 -- ---- batches of files, as the files' bytes say them
 
-files-listed : (files : List File) → AreKept files → map batches_of (data_of files) ≡ listed files
+files-listed : (files : List File) → AreKept files → map batches_with_fields (data_of files) ≡ listed files
 files-listed [] kept = refl
 files-listed (f ∷ files) kept =
-    ap (λ (l : List FileBatch). l ∷ map batches_of (data_of files)) (file-listed f.fields f.batches kept.0)
+    ap (λ (l : List FileBatch). l ∷ map batches_with_fields (data_of files)) (file-listed f.fields f.batches kept.0)
     ∙ ap (λ (ls : List (List FileBatch)). map batch_of f.batches ∷ ls) (files-listed files kept.1)
 
 fields-same : (files : List File) → table_fields (data_of files) ≡ fields_for files
@@ -50,9 +50,9 @@ fields-same [] = refl
 fields-same (f ∷ files) = refl
 
 module _ (workers : ℕ) (inputs : Inputs) (files : List File) (are_read : AreRead inputs (data_of files)) (kept : AreKept files) where
-  loaded_data : (h : History) → IsLoaded workers (listed files) (fields_for files) h → IsLoaded workers (map batches_of (data_of files)) (table_fields (data_of files)) h
+  loaded_data : (h : History) → IsLoaded workers (listed files) (fields_for files) h → IsLoaded workers (map batches_with_fields (data_of files)) (table_fields (data_of files)) h
   loaded_data h loaded =
-      subst (λ (fs : List FieldShape). IsLoaded workers (map batches_of (data_of files)) fs h) (sym (fields-same files))
+      subst (λ (fs : List FieldShape). IsLoaded workers (map batches_with_fields (data_of files)) fs h) (sym (fields-same files))
       (subst (λ (ls : List (List FileBatch)). IsLoaded workers ls (fields_for files) h) (sym (files-listed files kept)) loaded)
 
   -- ---- the command's output
@@ -79,7 +79,7 @@ module _ (workers : ℕ) (inputs : Inputs) (files : List File) (are_read : AreRe
         given = is.column;
         allowed = shows.allowed;
         history = shows.history;
-        loaded = subst (λ n. IsLoaded n (map batches_of (data_of files)) (table_fields (data_of files)) shows.history) (sym same) (loaded_data shows.history shows.loaded);
+        loaded = subst (λ n. IsLoaded n (map batches_with_fields (data_of files)) (table_fields (data_of files)) shows.history) (sym same) (loaded_data shows.history shows.loaded);
         prints =
             subst (λ n. Prints job.command n (fields_with column (table_fields (data_of files))) (history_with column (table_fields (data_of files)) shows.history) text) (sym same)
             (subst (λ (fs : List FieldShape). Prints job.command workers (fields_with column fs) (history_with column fs shows.history) text) there
@@ -109,7 +109,7 @@ module _ (workers : ℕ) (inputs : Inputs) (files : List File) (are_read : AreRe
         given = is.column;
         allowed = over.allowed;
         history = over.history;
-        loaded = subst (λ n. IsLoaded n (map batches_of (data_of files)) (table_fields (data_of files)) over.history) (sym same) (loaded_data over.history over.loaded);
+        loaded = subst (λ n. IsLoaded n (map batches_with_fields (data_of files)) (table_fields (data_of files)) over.history) (sym same) (loaded_data over.history over.loaded);
         refused =
             subst (λ (fs : List FieldShape). PrintsNothing job.command (fields_with column fs) (history_with column fs over.history) fault) (sym (fields-same files))
             (refuses_command job.command request.wanted (fields_with column fields) (history_with column fields over.history) fault is.wanted over.refused);
@@ -122,7 +122,7 @@ module _ (workers : ℕ) (inputs : Inputs) (files : List File) (are_read : AreRe
     files = data_of files;
     read = are_read;
     stopped =
-        subst (λ (fs : List FieldShape). IsStopped workers (map batches_of (data_of files)) fs file number refusal) (sym (fields-same files))
+        subst (λ (fs : List FieldShape). IsStopped workers (map batches_with_fields (data_of files)) fs file number refusal) (sym (fields-same files))
         (subst (λ (ls : List (List FileBatch)). IsStopped workers ls (fields_for files) file number refusal) (sym (files-listed files kept)) stopped);
   }
 
@@ -132,7 +132,7 @@ module _ (workers : ℕ) (inputs : Inputs) (files : List File) (are_read : AreRe
   refused_column (Some bytes) None f is same = absurd is
   refused_column (Some bytes) (Some g) f is same = let one : g ≡ f = cc same in (bytes, refl, subst (IsFieldText bytes) one is)
 
-  explains_column : (job : Job) (request : Request) (fault : ColumnFault) → IsRequest job request → StopsColumn (option_map field_of request.column) fault → ExplainsColumn job fault
+  explains_column : (job : Job) (request : Request) (fault : ColumnFault) → IsRequest job request → StopsAddingColumn (option_map field_of request.column) fault → ExplainsColumn job fault
   explains_column job request (column.Unread f) is stops = absurd stops
   explains_column job request (column.Refused fault) is stops =
       let read = refused_column (column_text job) (option_map field_of request.column) stops.0 is.column stops.1 in
@@ -179,7 +179,7 @@ text_explains job inputs before after (OfColumn (column.Unread f)) why = why
 text_explains job inputs before after (OfColumn (column.Refused fault)) why = absurd why
 
 -- the fault of a query's text is one of the command that has the text
-pub text_unread : (source : QuerySource) (output : Output) (fault : RunFault) → IsUnreadQuery (text_of source) fault → IsUnread (command.Query source output) fault
+pub text_unread : (source : QuerySource) (output : Output) (fault : RunFault) → IsUnreadQuery (text_of_query source) fault → IsUnread (command.Query source output) fault
 text_unread source output NoMemory why = tt
 text_unread source output (OfFile file fault) why = absurd why
 text_unread source output (QueryUnread f) why = why

@@ -6,7 +6,7 @@ use Rattle.arrays.specs.Batch.{Table}
 use Rattle.arrays.specs.Shape.{FieldShape}
 use Rattle.table.specs.History.{History, of}
 use Rattle.arrowtab.specs.Loaded.{IsLoaded, added_by}
-use Rattle.reports.specs.FileBatches.{FileBatch, tables_of}
+use Rattle.reports.specs.FileBatches.{FileBatch, batch_tables}
 use Rattle.loads.proofs.PlanLemmas.{by_recursion, planned_alone, same_test}
 
 -- tables that worker 0 added
@@ -25,5 +25,5 @@ all_own (e ∷ h) all =
 pub of_all_batches : (files : List (List FileBatch)) (fields : List FieldShape) (h : History) → IsLoaded 1 files fields h → h ≡ map (λ (b : FileBatch). (0, b.rows)) (flat_map (λ (batches : List FileBatch). batches) files)
 of_all_batches files fields h loaded =
     all_own h (by_recursion (λ (e : ℕ × Table). e.0 < 1) h loaded.known)
-    ∙ ap alone (loaded.each 0 (omega arith) ∙ ap tables_of (planned_alone files))
+    ∙ ap alone (loaded.each 0 (omega arith) ∙ ap batch_tables (planned_alone files))
     ∙ map-map (λ (t : Table). (0, t)) (λ (b : FileBatch). b.rows) (flat_map (λ (batches : List FileBatch). batches) files)

@@ -7,7 +7,7 @@ use Rattle.std.specs.Io.KnownBytes.{Appends}
 use Rattle.job.specs.Jobs.{names_of}
 use Rattle.job.specs.declared.jobs.Job.{Job}
 use Rattle.arrowtab.specs.Explained.{Explains}
-use Rattle.reports.specs.FileBatches.{batches_of}
+use Rattle.reports.specs.FileBatches.{batches_with_fields}
 use Rattle.ends.specs.Line.{line_taken, sink_failed}
 use Rattle.arrowtab.specs.Run.{Excuse, Inputs, column_not_read, column_refused, error_failed, no_memory, not_read, query_not_read, query_refused, refused, source_failed}
 use Rattle.arrowtab.specs.TookFault.{IsLineOf, IsOfFile, TookFault, built, not_built}
@@ -23,7 +23,7 @@ named job count inputs before after NoMemory same counts why = tt
 named job count inputs before after (OfFile file CannotRead) same counts why = omega (arith, counts, slice_get_within before file why.failed why.first)
 named job count inputs before after (OfFile file (Json f)) same counts why = omega (arith, same, slice_get_within inputs file why.input why.of_file)
 named job count inputs before after (OfFile file (Refused number refusal)) same counts why =
-    omega (arith, same, slice_get_within (_) file why.stopped.batches why.stopped.in_files, length-map why.files batches_of, AllZip-long _ inputs why.files why.read)
+    omega (arith, same, slice_get_within (_) file why.stopped.batches why.stopped.in_files, length-map why.files batches_with_fields, AllZip-long _ inputs why.files why.read)
 named job count inputs before after (QueryUnread f) same counts why = tt
 named job count inputs before after (QueryRefused f) same counts why = tt
 named job count inputs before after (OfColumn f) same counts why = tt

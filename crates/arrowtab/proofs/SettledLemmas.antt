@@ -27,7 +27,7 @@ use Rattle.table.specs.Widened.{widened}
 use Rattle.arrowtab.specs.Column.{fields_with, history_with}
 use Rattle.arrowtab.specs.Loaded.{IsLoaded, added_by}
 use Rattle.reports.specs.FileBatches.{FileBatch}
-use Rattle.reports.specs.Shown.{column_line, column_lines, field_line, rows_line, shown, worker_line, worker_lines}
+use Rattle.reports.specs.Shown.{column_line, column_lines, field_line, rows_line, stats_text, worker_line, worker_lines}
 use Rattle.loads.proofs.PlanLemmas.{by_recursion}
 
 -- ---- of two values the first in an order, whichever is named first
@@ -234,7 +234,7 @@ module _ (workers : ℕ) (files : List (List FileBatch)) (fields : List FieldSha
       let greatest : greatest_of kd (column (rows h) c) ≡ greatest_of kd (column (rows k) c) = same_stat c (greatest_of kd) (better greater) (greatest-append kd) (flip_greatest kd) in
       λ j. column_line name kd (count j) (nulls j) (sum j) (least j) (greatest j)
 
-  same_shown : (schema : List FieldShape) → shown workers schema h ≡ shown workers schema k
+  same_shown : (schema : List FieldShape) → stats_text workers schema h ≡ stats_text workers schema k
   same_shown schema =
       let count : length (rows h) ≡ length (rows k) = same_of (λ t. length t) (λ m n. m + n) (λ s t. length-append s t) (λ s t. omega arith) in
       let lines : worker_lines workers h ≡ worker_lines workers k =
@@ -244,7 +244,7 @@ module _ (workers : ℕ) (files : List (List FileBatch)) (fields : List FieldSha
       λ j. rows_line (count j) ++ lines j ++ columns j
 
 -- nulls behind the rows don't show in it
-widened_shown : (n workers : ℕ) (schema : List FieldShape) (h : History) → shown workers schema (widened n h) ≡ shown workers schema h
+widened_shown : (n workers : ℕ) (schema : List FieldShape) (h : History) → stats_text workers schema (widened n h) ≡ stats_text workers schema h
 widened_shown n workers schema h =
     let wide = widened n h in
     let count : length (rows wide) ≡ length (rows h) = rows_widened n h in
@@ -259,7 +259,7 @@ widened_shown n workers schema h =
     λ j. rows_line (count j) ++ lines j ++ columns j
 
 pub same_with : (added : Option FieldShape) (workers : ℕ) (files : List (List FileBatch)) (fields : List FieldShape) (h k : History) → IsLoaded workers files fields h → IsLoaded workers files fields k
-    → shown workers (fields_with added fields) (history_with added fields h) ≡ shown workers (fields_with added fields) (history_with added fields k)
+    → stats_text workers (fields_with added fields) (history_with added fields h) ≡ stats_text workers (fields_with added fields) (history_with added fields k)
 same_with None workers files fields h k one other = same_shown workers files fields h k one other fields
 same_with (Some f) workers files fields h k one other =
     let n = length fields + 1 in

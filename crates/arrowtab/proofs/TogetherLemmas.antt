@@ -10,13 +10,13 @@ use mathlib.Core.List.{IsPrefix}
 use Rattle.arrays.specs.Batch.{Batch, Table, rows_of}
 use Rattle.arrays.specs.File.{File}
 use Rattle.arrays.specs.Shape.{FieldShape}
-use Rattle.loads.specs.Loaded.{AllLoaded, AreRun, batches_of, before_stop, fields_for, IsStopped as IsHalted, Loaded, pairs_of, StandsFor, Stop}
+use Rattle.loads.specs.Loaded.{AllLoaded, AreRun, batches_of_files, before_stop, fields_for, IsStoppedAt as IsHalted, Loaded, pairs_of, StandsFor, Stop}
 use Rattle.loads.specs.Plan.{planned}
 use Rattle.loads.proofs.LoadLemmas.{HasLoaded, IsAlike, has_loaded}
-use Rattle.loads.specs.Report.{IsLeast, Stands}
+use Rattle.loads.specs.Report.{IsLeastReported, StandsAgainstLoading}
 use Rattle.loads.specs.declared.fault.LoadFault.TheVariants as load
 use Rattle.shared.specs.Balance.{IsOfWorkers}
-use Rattle.shared.specs.Hand.{AreNew, Hand, IsNew, IsPartOf, IsWhole, columns_of_hand}
+use Rattle.shared.specs.Hand.{AreNew, Hand, IsNew, IsWorkerOf, HasAllItsPairs, columns_of_hand}
 use Rattle.shared.specs.Known.{IsLegalKnown, Known, known_of}
 use Rattle.shared.specs.Left.{Left}
 use Rattle.shared.proofs.KnownLemmas.{legal_wide, wide_again}
@@ -94,7 +94,7 @@ pub record Added (fields : List FieldShape) (h : History) (place : ℕ) (bs : Li
   pub whole : of h place ≡ pairs_of place bs
   pub fits : All (Fits fields) bs
 
-added_new : (fields : List FieldShape) (k : Known) (place : ℕ) (bs : List Batch) (old new : Hand) → k.fields ≡ fields → IsNew fields place old → Loaded bs old new → IsWhole k new
+added_new : (fields : List FieldShape) (k : Known) (place : ℕ) (bs : List Batch) (old new : Hand) → k.fields ≡ fields → IsNew fields place old → Loaded bs old new → HasAllItsPairs k new
     → Added fields k.history place bs new
 added_new fields k place bs old new same was loaded whole =
     let is = has_loaded bs old new loaded in
@@ -144,30 +144,30 @@ fields_stay fields old new v are kept same opened counted =
     sym (whole_begun fields v.fields opened.0 opened.1 (omega (arith, none, counted)))
 
 pub stopped_stay : (files : List File) (fields : List FieldShape) (old new : List Hand) (v : Contents) (file number : ℕ) (e : Refusal) → AreNew fields 0 old
-    → Stands (load.Refused file number e) (batches_of files) old new → IsPrefix fields v.fields → length v.fields ≡ length fields + sum_by columns_of_hand new → v.fields ≡ fields
+    → StandsAgainstLoading (load.Refused file number e) (batches_of_files files) old new → IsPrefix fields v.fields → length v.fields ≡ length fields + sum_by columns_of_hand new → v.fields ≡ fields
 stopped_stay files fields old new v file number e are (inr none) opened counted = let wants : load.Refused file number e ≡ load.NoMemory = none.0 in absurd (cc)
 stopped_stay files fields old new v file number e are (inl reported) opened counted =
-    fields_stay fields old new v are reported.1.kept (λ w below. (has_run (batches_of files) old new reported.0 w reported.1 below).columns) opened counted
+    fields_stay fields old new v are reported.1.kept (λ w below. (has_run (batches_of_files files) old new reported.0 w reported.1 below).columns) opened counted
 
 -- ---- what they loaded
 
-loaded_all : (files : List File) (fields : List FieldShape) (old new : List Hand) (k : Known) → 1 ≤ length old → k.fields ≡ fields → AreNew fields 0 old → AllLoaded (batches_of files) old new
-    → All (IsWhole k) new → IsOfWorkers (length old) k.history → IsLegal fields k.history → IsLoaded (length old) (listed files) fields k.history
+loaded_all : (files : List File) (fields : List FieldShape) (old new : List Hand) (k : Known) → 1 ≤ length old → k.fields ≡ fields → AreNew fields 0 old → AllLoaded (batches_of_files files) old new
+    → All (HasAllItsPairs k) new → IsOfWorkers (length old) k.history → IsLegal fields k.history → IsLoaded (length old) (listed files) fields k.history
 loaded_all files fields old new k some same are all whole known legal =
     let n = length old in
-    let each : (w : ℕ) → w < n → Added fields k.history w (planned (batches_of files) n w) (get_or new w nobody)
+    let each : (w : ℕ) → w < n → Added fields k.history w (planned (batches_of_files files) n w) (get_or new w nobody)
     = λ w below.
-    added_new fields k w (planned (batches_of files) n w) (get_or old w nobody) (get_or new w nobody) same (new_at fields 0 old w w nobody are below (sym (zero-add w))) (all.each w nobody below)
+    added_new fields k w (planned (batches_of_files files) n w) (get_or old w nobody) (get_or new w nobody) same (new_at fields 0 old w w nobody are below (sym (zero-add w))) (all.each w nobody below)
     (whole w nobody (omega (arith, below, all.kept))) in
     loaded_of n files fields k.history
-    (each_planned (Fits fields) n (batches_of files) some (λ w below. by_recursion (Fits fields) (planned (batches_of files) n w) (each w below).fits))
+    (each_planned (Fits fields) n (batches_of_files files) some (λ w below. by_recursion (Fits fields) (planned (batches_of_files files) n w) (each w below).fits))
     known
     (λ w below. (each w below).whole)
     legal
 
 holds_all : (workers : ℕ) (files : List File) (fields : List FieldShape) (old new : List Hand) (v : Contents) → 1 ≤ workers → length old ≡ workers → fields ≡ fields_for files
-    → AreNew fields 0 old → AllLoaded (batches_of files) old new
-    → All (IsWhole (known_of v)) new → IsOfWorkers workers v.history → IsLegal fields v.history → v.fields ≡ fields → Holds workers files None v
+    → AreNew fields 0 old → AllLoaded (batches_of_files files) old new
+    → All (HasAllItsPairs (known_of v)) new → IsOfWorkers workers v.history → IsLegal fields v.history → v.fields ≡ fields → Holds workers files None v
 holds_all workers files fields old new v some count same are all whole known legal is = record {
   allowed = tt;
   fields = is ∙ same;
@@ -180,13 +180,13 @@ holds_all workers files fields old new v some count same are all whole known leg
 }
 
 -- each batch fits the fields
-pub all_fit : (files : List File) (fields : List FieldShape) (old new : List Hand) (v : Contents) → 1 ≤ length old → AreNew fields 0 old → AllLoaded (batches_of files) old new
-    → All (IsWhole (known_of v)) new → IsPrefix fields v.fields → length v.fields ≡ length fields + sum_by columns_of_hand new → AllByRecursion (AllByRecursion (Fits fields)) (batches_of files)
+pub all_fit : (files : List File) (fields : List FieldShape) (old new : List Hand) (v : Contents) → 1 ≤ length old → AreNew fields 0 old → AllLoaded (batches_of_files files) old new
+    → All (HasAllItsPairs (known_of v)) new → IsPrefix fields v.fields → length v.fields ≡ length fields + sum_by columns_of_hand new → AllByRecursion (AllByRecursion (Fits fields)) (batches_of_files files)
 all_fit files fields old new v some are all whole opened counted =
-    let stay = fields_stay fields old new v are all.kept (λ w below. (has_planned (batches_of files) old new w all below).columns) opened counted in
-    each_planned (Fits fields) (length old) (batches_of files) some (λ w below.
-    by_recursion (Fits fields) (planned (batches_of files) (length old) w)
-    (added_new fields (known_of v) w (planned (batches_of files) (length old) w) (get_or old w nobody) (get_or new w nobody) stay
+    let stay = fields_stay fields old new v are all.kept (λ w below. (has_planned (batches_of_files files) old new w all below).columns) opened counted in
+    each_planned (Fits fields) (length old) (batches_of_files files) some (λ w below.
+    by_recursion (Fits fields) (planned (batches_of_files files) (length old) w)
+    (added_new fields (known_of v) w (planned (batches_of_files files) (length old) w) (get_or old w nobody) (get_or new w nobody) stay
     (new_at fields 0 old w w nobody are below (sym (zero-add w))) (all.each w nobody below) (whole w nobody (omega (arith, below, all.kept)))).fits)
 
 -- ---- what stopped one of them
@@ -204,7 +204,7 @@ cause_of k b e known (inr stands) = stands
 
 -- the others' pairs that it had seen
 others_begun : (fields : List FieldShape) (files : List (List Batch)) (old new : List Hand) (outcomes : List Left) (seen : History) (k : Known) → k.fields ≡ fields → AreNew fields 0 old
-    → AreRun files old new outcomes → All (IsWhole k) new → IsPrefix seen k.history → (w : ℕ) → w < length old → IsPrefix (of seen w) (pairs_of w (planned files (length old) w))
+    → AreRun files old new outcomes → All (HasAllItsPairs k) new → IsPrefix seen k.history → (w : ℕ) → w < length old → IsPrefix (of seen w) (pairs_of w (planned files (length old) w))
 others_begun fields files old new outcomes seen k same are run whole begun w below =
     let none : Left = record { last = None; stop = None } in
     let o = get_or outcomes w none in
@@ -227,7 +227,7 @@ pub record Halted (fields : List FieldShape) (files : List (List Batch)) (h : Hi
   pub stands : batch_cause w.seen.fields w.seen.history batch ≡ Some e
 
 halted_at : (fields : List FieldShape) (files : List (List Batch)) (old new : List Hand) (outcomes : List Left) (v : Known) (file number : ℕ) (e : Refusal) (k : ℕ) (o : Left) → v.fields ≡ fields
-    → AreNew fields 0 old → AreRun files old new outcomes → All (IsWhole v) new → e ≢ refusal.NoMemory → k < length old → (get_or outcomes k o).stop ≡ Some (file, number, e)
+    → AreNew fields 0 old → AreRun files old new outcomes → All (HasAllItsPairs v) new → e ≢ refusal.NoMemory → k < length old → (get_or outcomes k o).stop ≡ Some (file, number, e)
     → Halted fields files v.history (length old) k file number e (get_or new k nobody)
 halted_at fields files old new outcomes v file number e k o same are run whole known inside stop =
     let n = length old in
@@ -247,7 +247,7 @@ halted_at fields files old new outcomes v file number e k o same are run whole k
 
 -- it is the one in its file's place
 halted_own : (fields : List FieldShape) (files : List (List Batch)) (old new : List Hand) (outcomes : List Left) (v : Known) (file number : ℕ) (e : Refusal) → v.fields ≡ fields → AreNew fields 0 old
-    → AreRun files old new outcomes → All (IsWhole v) new → IsLeast (file, number, e) outcomes
+    → AreRun files old new outcomes → All (HasAllItsPairs v) new → IsLeastReported (file, number, e) outcomes
     → Halted fields files v.history (length old) (file % length old) file number e (get_or new (file % length old) nobody)
 halted_own fields files old new outcomes v file number e same are run whole reported =
     let met = reported.met in
@@ -255,7 +255,7 @@ halted_own fields files old new outcomes v file number e same are run whole repo
     subst (λ k. Halted fields files v.history (length old) k file number e (get_or new k nobody)) (sym halted.own) halted
 
 -- all that it had seen of itself is all that it added
-own_whole : (fields : List FieldShape) (h : History) (place count : ℕ) (bs : List Batch) (w : Hand) → Added fields h place bs w → IsPrefix w.seen.history h → IsPartOf count w.seen w
+own_whole : (fields : List FieldShape) (h : History) (place count : ℕ) (bs : List Batch) (w : Hand) → Added fields h place bs w → IsPrefix w.seen.history h → IsWorkerOf count w.seen w
     → of w.seen.history place ≡ w.mine
 own_whole fields h place count bs w is begun part =
     let same : widened (length w.seen.fields) w.mine ≡ w.mine = ap (λ (fs : List FieldShape). widened (length fs) w.mine) is.stay ∙ is.wide in
@@ -264,17 +264,17 @@ own_whole fields h place count bs w is begun part =
     (subst (λ (l : History). IsPrefix (of w.seen.history place) l) (is.whole ∙ sym is.mine) (of_begun w.seen.history h place begun))
 
 -- what it had seen begins the history
-seen_begun : (fields : List FieldShape) (k : Known) (w : Hand) → k.fields ≡ fields → w.seen.fields ≡ fields → IsLegalKnown w.seen → IsWhole k w → IsPrefix w.seen.history k.history
+seen_begun : (fields : List FieldShape) (k : Known) (w : Hand) → k.fields ≡ fields → w.seen.fields ≡ fields → IsLegalKnown w.seen → HasAllItsPairs k w → IsPrefix w.seen.history k.history
 seen_begun fields k w same stay legal whole =
     let n : length k.fields ≡ length w.seen.fields = ap (λ (fs : List FieldShape). length fs) (same ∙ sym stay) in
     subst (λ (l : History). IsPrefix l k.history) (ap (λ m. widened m w.seen.history) n ∙ legal_wide w.seen legal) whole.begun.history
 
 stopped_own : (files : List File) (fields : List FieldShape) (old new : List Hand) (outcomes : List Left) (k : Known) (file number count : ℕ) (e : Refusal) (w : Hand) → k.fields ≡ fields → AreNew fields 0 old
-    → AreRun (batches_of files) old new outcomes → Halted fields (batches_of files) k.history (length old) (file % length old) file number e w
-    → IsPartOf count w.seen w → IsLegalKnown w.seen → IsWhole k w → All (IsWhole k) new → IsOfWorkers (length old) k.history
+    → AreRun (batches_of_files files) old new outcomes → Halted fields (batches_of_files files) k.history (length old) (file % length old) file number e w
+    → IsWorkerOf count w.seen w → IsLegalKnown w.seen → HasAllItsPairs k w → All (HasAllItsPairs k) new → IsOfWorkers (length old) k.history
     → IsStopped (length old) (listed files) fields file number e
 stopped_own files fields old new outcomes k file number count e w same are run halted part legal own whole known =
-    let all = batches_of files in
+    let all = batches_of_files files in
     let stay = halted.added.stay in
     let begun = seen_begun fields k w same stay legal own in
     stopped_of (length old) files fields file number e (get_or all file []) halted.batch w.seen.history
@@ -286,8 +286,8 @@ stopped_own files fields old new outcomes k file number count e w same are run h
     (ap (λ (fs : List FieldShape). batch_cause fs w.seen.history halted.batch) (sym stay) ∙ halted.stands)
 
 stopped_one : (files : List File) (fields : List FieldShape) (old new : List Hand) (k : Known) (file number count : ℕ) (e : Refusal) (own : Hand) → 1 ≤ length old → k.fields ≡ fields → AreNew fields 0 old
-    → Stands (load.Refused file number e) (batches_of files) old new → own ≡ get_or new (file % length old) own
-    → IsPartOf count own.seen own → IsLegalKnown own.seen → All (IsWhole k) new → IsOfWorkers (length old) k.history
+    → StandsAgainstLoading (load.Refused file number e) (batches_of_files files) old new → own ≡ get_or new (file % length old) own
+    → IsWorkerOf count own.seen own → IsLegalKnown own.seen → All (HasAllItsPairs k) new → IsOfWorkers (length old) k.history
     → IsStopped (length old) (listed files) fields file number e
 stopped_one files fields old new k file number count e own some same are (inr none) at part legal whole known = let wants : load.Refused file number e ≡ load.NoMemory = none.0 in absurd (cc)
 stopped_one files fields old new k file number count e own some same are (inl reported) at part legal whole known =
@@ -295,14 +295,14 @@ stopped_one files fields old new k file number count e own some same are (inl re
     let inside : place < length new = omega (arith, some, reported.1.kept) in
     let is : own ≡ get_or new place nobody = at ∙ same_at new place own nobody inside in
     stopped_own files fields old new reported.0 k file number count e (get_or new place nobody) same are reported.1
-    (halted_own fields (batches_of files) old new reported.0 k file number e same are reported.1 whole reported.2)
-    (subst (λ (x : Hand). IsPartOf count x.seen x) is part) (subst (λ (x : Hand). IsLegalKnown x.seen) is legal)
+    (halted_own fields (batches_of_files files) old new reported.0 k file number e same are reported.1 whole reported.2)
+    (subst (λ (x : Hand). IsWorkerOf count x.seen x) is part) (subst (λ (x : Hand). IsLegalKnown x.seen) is legal)
     (whole place nobody inside) whole known
 
 pub stopped_all : (workers : ℕ) (files : List File) (fields : List FieldShape) (old new : List Hand) (v : Contents) (file number count : ℕ) (e : Refusal) (own : Hand) → 1 ≤ workers
     → length old ≡ workers → fields ≡ fields_for files → v.fields ≡ fields → AreNew fields 0 old
-    → Stands (load.Refused file number e) (batches_of files) old new → own ≡ get_or new (file % length old) own
-    → IsPartOf count own.seen own → IsLegalKnown own.seen → All (IsWhole (known_of v)) new → IsOfWorkers workers v.history
+    → StandsAgainstLoading (load.Refused file number e) (batches_of_files files) old new → own ≡ get_or new (file % length old) own
+    → IsWorkerOf count own.seen own → IsLegalKnown own.seen → All (HasAllItsPairs (known_of v)) new → IsOfWorkers workers v.history
     → IsStopped workers (listed files) (fields_for files) file number e
 stopped_all workers files fields old new v file number count e own some size same shown are stands at part legal whole known =
     subst (λ (fs : List FieldShape). IsStopped workers (listed files) fs file number e) same
@@ -327,15 +327,15 @@ all_there workers fields old new back size kept are is numbered n below =
     ap (λ hands. is_there hands n) is ∙ there_at new n n nobody (omega (arith, inside, kept)) (numbered n inside ∙ (new_at fields 0 old n n nobody are inside (sym (zero-add n))).numbered)
 
 pub loaded_there : (workers table : ℕ) (files : List File) (fields : List FieldShape) (old new back : List Hand) → table ≡ workers → length old ≡ workers → AreNew fields 0 old
-    → AllLoaded (batches_of files) old new → back ≡ new → AllThere table back
+    → AllLoaded (batches_of_files files) old new → back ≡ new → AllThere table back
 loaded_there workers table files fields old new back same size are all is =
-    subst (λ n. AllThere n back) (sym same) (all_there workers fields old new back size all.kept are is (λ w below. (has_planned (batches_of files) old new w all below).number))
+    subst (λ n. AllThere n back) (sym same) (all_there workers fields old new back size all.kept are is (λ w below. (has_planned (batches_of_files files) old new w all below).number))
 
 pub stopped_there : (workers table : ℕ) (files : List File) (fields : List FieldShape) (old new back : List Hand) (file number : ℕ) (e : Refusal) → table ≡ workers → length old ≡ workers → AreNew fields 0 old
-    → Stands (load.Refused file number e) (batches_of files) old new → back ≡ new → AllThere table back
+    → StandsAgainstLoading (load.Refused file number e) (batches_of_files files) old new → back ≡ new → AllThere table back
 stopped_there workers table files fields old new back file number e same size are (inr none) is = let wants : load.Refused file number e ≡ load.NoMemory = none.0 in absurd (cc)
 stopped_there workers table files fields old new back file number e same size are (inl reported) is =
-    subst (λ n. AllThere n back) (sym same) (all_there workers fields old new back size reported.1.kept are is (λ w below. (has_run (batches_of files) old new reported.0 w reported.1 below).number))
+    subst (λ n. AllThere n back) (sym same) (all_there workers fields old new back size reported.1.kept are is (λ w below. (has_run (batches_of_files files) old new reported.0 w reported.1 below).number))
 
 -- ---- the workers, written back
 
@@ -343,13 +343,13 @@ pub written_back : (len : ℕ) (old new : List Hand) → len ≡ length old → 
 written_back len old new size kept = take_at new (drop (length new) old) len (omega (arith, size, kept))
 
 pub ok_holds : {A : Type 0} (workers table : ℕ) (files : List File) (fields : List FieldShape) (old new back : List Hand) (r : Result A RunFault) (seen : A → Contents) → 1 ≤ workers → table ≡ workers
-    → length old ≡ workers → fields ≡ fields_for files → AreNew fields 0 old → AllLoaded (batches_of files) old new → back ≡ new
-    → IfOk r (λ v. All (IsWhole (known_of (seen v))) back) → IfOk r (λ v. IsOfWorkers table (seen v).history) → IfOk r (λ v. IsLegalKnown (known_of (seen v)))
+    → length old ≡ workers → fields ≡ fields_for files → AreNew fields 0 old → AllLoaded (batches_of_files files) old new → back ≡ new
+    → IfOk r (λ v. All (HasAllItsPairs (known_of (seen v))) back) → IfOk r (λ v. IsOfWorkers table (seen v).history) → IfOk r (λ v. IsLegalKnown (known_of (seen v)))
     → IfOk r (λ v. IsPrefix fields (seen v).fields) → IfOk r (λ v. length (seen v).fields ≡ length fields + sum_by columns_of_hand back) → IfOk r (λ v. Holds workers files None (seen v))
 ok_holds workers table files fields old new back (Ok v) seen some same size stored are all is whole known legal opened counted =
-    let stay = fields_stay fields old new (seen v) are all.kept (λ w below. (has_planned (batches_of files) old new w all below).columns) opened
+    let stay = fields_stay fields old new (seen v) are all.kept (λ w below. (has_planned (batches_of_files files) old new w all below).columns) opened
     (subst (λ (hands : List Hand). length (seen v).fields ≡ length fields + sum_by columns_of_hand hands) is counted) in
     holds_all workers files fields old new (seen v) some size stored are all
-    (subst (λ (hands : List Hand). All (IsWhole (known_of (seen v))) hands) is whole)
+    (subst (λ (hands : List Hand). All (HasAllItsPairs (known_of (seen v))) hands) is whole)
     (subst (λ n. IsOfWorkers n (seen v).history) same known) (subst (λ (fs : List FieldShape). IsLegal fs (seen v).history) stay legal) stay
 ok_holds workers table files fields old new back (Err fault) seen some same size stored are all is whole known legal opened counted = tt

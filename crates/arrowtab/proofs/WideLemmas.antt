@@ -11,11 +11,11 @@ use Rattle.arrays.specs.Batch.{Batch, Row, Table, rows_of}
 use Rattle.arrays.specs.File.{File}
 use Rattle.arrays.specs.First.{first}
 use Rattle.arrays.specs.Shape.{FieldShape}
-use Rattle.loads.specs.Loaded.{AllLoaded, Loaded, batches_of, fields_for, pairs_of}
+use Rattle.loads.specs.Loaded.{AllLoaded, Loaded, batches_of_files, fields_for, pairs_of}
 use Rattle.loads.specs.Plan.{planned}
 use Rattle.loads.proofs.LoadLemmas.{has_loaded}
 use Rattle.shared.specs.Balance.{IsOfWorkers}
-use Rattle.shared.specs.Hand.{AreNew, Hand, HasWidened, IsNew, IsWhole, columns_of_hand}
+use Rattle.shared.specs.Hand.{AreNew, Hand, HasWidened, IsNew, HasAllItsPairs, columns_of_hand}
 use Rattle.shared.specs.Known.{IsLegalKnown, Known, known_of}
 use Rattle.shared.specs.Missing.{AllThere}
 use Rattle.table.proofs.AddLemmas.{fits-stored}
@@ -127,7 +127,7 @@ brought_wider fields place bs f w next is wider =
       fits = is.fits;
     }
 
-whole_brought : (fields : List FieldShape) (k : Known) (place : ℕ) (bs : List Batch) (w : Hand) → Brought fields place bs w → IsWhole k w → of k.history place ≡ widened (length k.fields) (pairs_of place bs)
+whole_brought : (fields : List FieldShape) (k : Known) (place : ℕ) (bs : List Batch) (w : Hand) → Brought fields place bs w → HasAllItsPairs k w → of k.history place ≡ widened (length k.fields) (pairs_of place bs)
 whole_brought fields k place bs w is whole =
     let begun = whole.begun.fields in
     let few : is.width ≤ length k.fields = omega (arith, is.few, ap (λ (fs : List FieldShape). length fs) begun.1, length-append w.seen.fields begun.0) in
@@ -221,7 +221,7 @@ one_added f mid new is none =
     omega (arith, none, ap (λ (l : List Hand). sum_by columns_of_hand l) is.was, ap (λ (l : List Hand). sum_by columns_of_hand l) is.becomes, before, after, is.widened.columns)
 
 -- the version's fields are those of the opening, and the column's
-wide_fields : (fields : List FieldShape) (f : FieldShape) (k : Known) (old next : Hand) → HasWidened f old next → IsPrefix fields old.seen.fields → IsWhole k next
+wide_fields : (fields : List FieldShape) (f : FieldShape) (k : Known) (old next : Hand) → HasWidened f old next → IsPrefix fields old.seen.fields → HasAllItsPairs k next
     → length k.fields ≡ length fields + 1 → k.fields ≡ fields ++ f ∷ []
 wide_fields fields f k old next wider opened whole counted =
     let all : next.seen.fields ≡ wider.before.fields ++ f ∷ [] = ap (λ (k : Known). k.fields) wider.seen in
@@ -233,34 +233,34 @@ wide_fields fields f k old next wider opened whole counted =
     let last : next.seen.fields ≡ k.fields = whole_begun next.seen.fields k.fields begun.0 begun.1 (omega (arith, counted, ap (λ (fs : List FieldShape). length fs) seen, length-append fields (f ∷ []))) in
     sym last ∙ seen
 
-module _ (fields : List FieldShape) (f : FieldShape) (files : List File) (old mid new : List Hand) (some : 1 ≤ length old) (are : AreNew fields 0 old) (all : AllLoaded (batches_of files) old mid)
-    (wide : AllByRecursion (AllByRecursion (λ (b : Batch). length b.fields ≡ length fields)) (batches_of files)) (widened_first : IsWidenedFirst (stored_field f) mid new) where
+module _ (fields : List FieldShape) (f : FieldShape) (files : List File) (old mid new : List Hand) (some : 1 ≤ length old) (are : AreNew fields 0 old) (all : AllLoaded (batches_of_files files) old mid)
+    (wide : AllByRecursion (AllByRecursion (λ (b : Batch). length b.fields ≡ length fields)) (batches_of_files files)) (widened_first : IsWidenedFirst (stored_field f) mid new) where
   abbrev own : ℕ → List Batch
-  own w = planned (batches_of files) (length old) w
+  own w = planned (batches_of_files files) (length old) w
 
   brought : (w : ℕ) → w < length old → Brought fields w (own w) (get_or mid w nobody)
   brought w below =
       brought_new fields w (own w) (get_or old w nobody) (get_or mid w nobody) (new_at fields 0 old w w nobody are below (sym (zero-add w))) (all.each w nobody below)
-      (all_from (λ (b : Batch). length b.fields ≡ length fields) (own w) (planned_all (λ (b : Batch). length b.fields ≡ length fields) (length old) w (batches_of files) wide))
+      (all_from (λ (b : Batch). length b.fields ≡ length fields) (own w) (planned_all (λ (b : Batch). length b.fields ≡ length fields) (length old) w (batches_of_files files) wide))
 
   brought_next : (w : ℕ) → w < length old → Brought fields w (own w) (get_or new w nobody)
   brought_next w below =
       next_at (stored_field f) mid new widened_first (Brought fields w (own w)) w (omega (arith, below, all.kept)) (brought w below)
       (λ one. brought_wider fields w (own w) (stored_field f) widened_first.first widened_first.next one widened_first.widened)
 
-  pub holds_wide : (v : Contents) → add_fault f ≡ None → All (IsWhole (known_of v)) new → IsOfWorkers (length old) v.history → IsLegalKnown (known_of v)
+  pub holds_wide : (v : Contents) → add_fault f ≡ None → All (HasAllItsPairs (known_of v)) new → IsOfWorkers (length old) v.history → IsLegalKnown (known_of v)
       → length v.fields ≡ length fields + sum_by columns_of_hand new → (fields ≡ fields_for files) → Holds (length old) files (Some f) v
   holds_wide v allowed whole known legal counted same =
       let n = length old in
       let many = same_many (stored_field f) mid new widened_first in
       let none = none_added mid (λ w below.
       let inside : w < n = omega (arith, below, all.kept) in
-      (has_planned (batches_of files) old mid w all inside).columns ∙ (new_at fields 0 old w w nobody are inside (sym (zero-add w))).columns) in
+      (has_planned (batches_of_files files) old mid w all inside).columns ∙ (new_at fields 0 old w w nobody are inside (sym (zero-add w))).columns) in
       let size : length v.fields ≡ length fields + 1 = omega (arith, counted, one_added (stored_field f) mid new widened_first none) in
       let first_opened : IsPrefix fields widened_first.first.seen.fields =
       subst (λ (l : List Hand). IsPrefix fields (get_or l 0 nobody).seen.fields) widened_first.was (brought 0 some).opened in
-      let first_whole : IsWhole (known_of v) widened_first.next =
-      subst (λ (l : List Hand). IsWhole (known_of v) (get_or l 0 nobody)) widened_first.becomes (whole 0 nobody (omega (arith, some, many, all.kept))) in
+      let first_whole : HasAllItsPairs (known_of v) widened_first.next =
+      subst (λ (l : List Hand). HasAllItsPairs (known_of v) (get_or l 0 nobody)) widened_first.becomes (whole 0 nobody (omega (arith, some, many, all.kept))) in
       let is : v.fields ≡ fields ++ stored_field f ∷ [] = wide_fields fields (stored_field f) (known_of v) widened_first.first widened_first.next widened_first.widened first_opened first_whole size in
       let part : (w : ℕ) → w < n → of v.history w ≡ widened (length fields + 1) (pairs_of w (own w))
       = λ w below. whole_brought fields (known_of v) w (own w) (get_or new w nobody) (brought_next w below) (whole w nobody (omega (arith, below, many, all.kept))) ∙ ap (λ m. widened m (pairs_of w (own w))) size in
@@ -274,7 +274,7 @@ module _ (fields : List FieldShape) (f : FieldShape) (files : List File) (old mi
       (subst (IsLegal (fields ++ stored_field f ∷ [])) (sym back) (subst (λ (fs : List FieldShape). IsLegal fs v.history) is legal)) in
       let loaded : IsLoaded n (listed files) fields h =
       loaded_of n files fields h
-      (each_planned (Fits fields) n (batches_of files) some (λ w below. by_recursion (Fits fields) (own w) (brought_next w below).fits))
+      (each_planned (Fits fields) n (batches_of_files files) some (λ w below. by_recursion (Fits fields) (own w) (brought_next w below).fits))
       (All-map (λ (e : ℕ × Table). e.0 < n) (λ (e : ℕ × Table). (e.0, narrow_table (length fields) e.1)) v.history known)
       (λ w below.
       of_narrowed (length fields) v.history w ∙ ap (narrowed (length fields)) (part w below) ∙ pairs_back fields w (own w) (brought_next w below).shaped)
@@ -294,26 +294,26 @@ pub first_count : (files : List File) (f : File) → 0 < length files → f ≡ 
 first_count [] f some is = absurd (omega (arith, some))
 first_count (g ∷ files) f some is = length-map g.fields stored_field ∙ ap (λ (x : File). length x.fields) (sym is)
 
-pub wide_there : (f : FieldShape) (files : List File) (fields : List FieldShape) (count : ℕ) (old mid new back : List Hand) → length old ≡ count → AreNew fields 0 old → AllLoaded (batches_of files) old mid
+pub wide_there : (f : FieldShape) (files : List File) (fields : List FieldShape) (count : ℕ) (old mid new back : List Hand) → length old ≡ count → AreNew fields 0 old → AllLoaded (batches_of_files files) old mid
     → IsWidenedFirst f mid new → back ≡ new → AllThere count back
 wide_there f files fields count old mid new back size are all first is =
     all_there count fields old new back size (same_many f mid new first ∙ all.kept) are is
     (λ w below.
-    next_at f mid new first (λ h. h.number ≡ (get_or old w nobody).number) w (omega (arith, below, all.kept)) (has_planned (batches_of files) old mid w all below).number (λ one. first.widened.number ∙ one))
+    next_at f mid new first (λ h. h.number ≡ (get_or old w nobody).number) w (omega (arith, below, all.kept)) (has_planned (batches_of_files files) old mid w all below).number (λ one. first.widened.number ∙ one))
 
 each_wide : (n : ℕ) (files : List (List Batch)) → All (All (λ b. length b.fields ≡ n)) files → AllByRecursion (AllByRecursion (λ (b : Batch). length b.fields ≡ n)) files
 each_wide n files all =
     by_recursion (AllByRecursion (λ (b : Batch). length b.fields ≡ n)) files (λ i d below. by_recursion (λ (b : Batch). length b.fields ≡ n) (get_or files i d) (all i d below))
 
 pub ok_wide : {A : Type 0} (f : FieldShape) (files : List File) (fields : List FieldShape) (count n : ℕ) (old mid new back : List Hand) (r : Result A RunFault) (seen : A → Contents) → 1 ≤ count → length old ≡ count
-    → fields ≡ fields_for files → length fields ≡ n → AreAsWide n files → AreNew fields 0 old → AllLoaded (batches_of files) old mid → IsWidenedFirst (stored_field f) mid new → back ≡ new → add_fault f ≡ None
-    → IfOk r (λ v. All (IsWhole (known_of (seen v))) back) → IfOk r (λ v. IsOfWorkers count (seen v).history) → IfOk r (λ v. IsLegalKnown (known_of (seen v)))
+    → fields ≡ fields_for files → length fields ≡ n → AreAsWide n files → AreNew fields 0 old → AllLoaded (batches_of_files files) old mid → IsWidenedFirst (stored_field f) mid new → back ≡ new → add_fault f ≡ None
+    → IfOk r (λ v. All (HasAllItsPairs (known_of (seen v))) back) → IfOk r (λ v. IsOfWorkers count (seen v).history) → IfOk r (λ v. IsLegalKnown (known_of (seen v)))
     → IfOk r (λ v. length (seen v).fields ≡ length fields + sum_by columns_of_hand back) → IfOk r (λ v. Holds count files (Some f) (seen v))
 ok_wide f files fields count n old mid new back (Ok v) seen some size same many wide are all first is allowed whole known legal counted =
-    let even = each_wide (length fields) (batches_of files) (subst (λ m. AreAsWide m files) (sym many) wide) in
+    let even = each_wide (length fields) (batches_of_files files) (subst (λ m. AreAsWide m files) (sym many) wide) in
     subst (λ m. Holds m files (Some f) (seen v)) size
     (holds_wide fields f files old mid new (omega (arith, some, size)) are all even first (seen v) allowed
-    (subst (λ (hands : List Hand). All (IsWhole (known_of (seen v))) hands) is whole)
+    (subst (λ (hands : List Hand). All (HasAllItsPairs (known_of (seen v))) hands) is whole)
     (subst (λ m. IsOfWorkers m (seen v).history) (sym size) known) legal
     (subst (λ (hands : List Hand). length (seen v).fields ≡ length fields + sum_by columns_of_hand hands) is counted) same)
 ok_wide f files fields count n old mid new back (Err fault) seen some size same many wide are all first is allowed whole known legal counted = tt

@@ -9,7 +9,7 @@ use mathlib.Core.List.{IsPrefix}
 use Rattle.arrays.specs.Batch.{Batch, Table, rows_of}
 use Rattle.arrays.specs.File.{File}
 use Rattle.arrays.specs.Shape.{FieldShape}
-use Rattle.loads.specs.Loaded.{batches_of, fields_for, pairs_of}
+use Rattle.loads.specs.Loaded.{batches_of_files, fields_for, pairs_of}
 use Rattle.loads.specs.Plan.{planned}
 use Rattle.shared.specs.Balance.{IsOfWorkers}
 use Rattle.query.specs.declared.fault.QueryFault.{QueryFault}
@@ -19,7 +19,7 @@ use Rattle.table.specs.History.{History, of}
 use Rattle.table.specs.declared.refusal.Refusal.{Refusal}
 use Rattle.arrowtab.specs.Column.{fields_with}
 use Rattle.arrowtab.specs.Loaded.{IsLoaded, IsStopped, added_by}
-use Rattle.reports.specs.FileBatches.{FileBatch, tables_of}
+use Rattle.reports.specs.FileBatches.{FileBatch, batch_tables}
 use Rattle.arrowtab.specs.Wanted.{IsUnprinted, PrintsWanted, RefusesWanted}
 use Rattle.arrowtab.specs.Worked.{Holds, IsRefusedOver, Shows, StopsLoading, StopsWanted, listed}
 use Rattle.reports.specs.FileBatches.{batch_of}
@@ -34,11 +34,11 @@ use Rattle.loads.proofs.PlanLemmas.{all_from, map_begun, planned-map}
 abbrev table_of : ℕ × Table → Table
 table_of e = e.1
 
-added_tables : (worker : ℕ) (bs : List Batch) → map table_of (pairs_of worker bs) ≡ tables_of (map batch_of bs)
+added_tables : (worker : ℕ) (bs : List Batch) → map table_of (pairs_of worker bs) ≡ batch_tables (map batch_of bs)
 added_tables worker bs = map-map table_of (λ (b : Batch). (worker, rows_of b)) bs ∙ sym (map-map (λ (b : FileBatch). b.rows) batch_of bs)
 
-planned_tables : (worker : ℕ) (files : List (List Batch)) (workers : ℕ) → map table_of (pairs_of worker (planned files workers worker)) ≡ tables_of (planned (map (map batch_of) files) workers worker)
-planned_tables worker files workers = added_tables worker (planned files workers worker) ∙ ap tables_of (sym (planned-map batch_of files workers worker))
+planned_tables : (worker : ℕ) (files : List (List Batch)) (workers : ℕ) → map table_of (pairs_of worker (planned files workers worker)) ≡ batch_tables (planned (map (map batch_of) files) workers worker)
+planned_tables worker files workers = added_tables worker (planned files workers worker) ∙ ap batch_tables (sym (planned-map batch_of files workers worker))
 
 -- the fields of a batch are these
 abbrev pub Fits : List FieldShape → Batch → Type 0
@@ -58,12 +58,12 @@ alike_listed fields (bs ∷ files) alike = (
 
 -- ---- what was loaded
 
-pub loaded_of : (workers : ℕ) (files : List File) (fields : List FieldShape) (h : History) → AllByRecursion (AllByRecursion (Fits fields)) (batches_of files) → IsOfWorkers workers h
-    → ((w : ℕ) → w < workers → of h w ≡ pairs_of w (planned (batches_of files) workers w)) → IsLegal fields h → IsLoaded workers (listed files) fields h
+pub loaded_of : (workers : ℕ) (files : List File) (fields : List FieldShape) (h : History) → AllByRecursion (AllByRecursion (Fits fields)) (batches_of_files files) → IsOfWorkers workers h
+    → ((w : ℕ) → w < workers → of h w ≡ pairs_of w (planned (batches_of_files files) workers w)) → IsLegal fields h → IsLoaded workers (listed files) fields h
 loaded_of workers files fields h alike known each legal = record {
-  alike = all_from (λ (bs : List FileBatch). All (λ b. difference fields b.fields ≡ None) bs) (listed files) (alike_listed fields (batches_of files) alike);
+  alike = all_from (λ (bs : List FileBatch). All (λ b. difference fields b.fields ≡ None) bs) (listed files) (alike_listed fields (batches_of_files files) alike);
   known = known;
-  each = λ w below. ap (map table_of) (each w below) ∙ planned_tables w (batches_of files) workers;
+  each = λ w below. ap (map table_of) (each w below) ∙ planned_tables w (batches_of_files files) workers;
   legal = legal;
 }
 
@@ -71,32 +71,32 @@ loaded_of workers files fields h alike known each legal = record {
 
 fronts_listed : (files : List (List Batch)) (workers file number : ℕ) (bs : List Batch)
     → map table_of (pairs_of (file % workers) (planned (take file files) workers (file % workers) ++ take number bs))
-    ≡ tables_of (planned (take file (map (map batch_of) files)) workers (file % workers) ++ take number (map batch_of bs))
+    ≡ batch_tables (planned (take file (map (map batch_of) files)) workers (file % workers) ++ take number (map batch_of bs))
 fronts_listed files workers file number bs =
     let own = file % workers in
     let before = planned (take file files) workers own in
     added_tables own (before ++ take number bs)
-    ∙ ap tables_of (map-append batch_of before (take number bs))
-    ∙ ap (λ (l : List FileBatch). tables_of (map batch_of before ++ l)) (sym (take-map batch_of number bs))
-    ∙ ap (λ (l : List FileBatch). tables_of (l ++ take number (map batch_of bs)))
+    ∙ ap batch_tables (map-append batch_of before (take number bs))
+    ∙ ap (λ (l : List FileBatch). batch_tables (map batch_of before ++ l)) (sym (take-map batch_of number bs))
+    ∙ ap (λ (l : List FileBatch). batch_tables (l ++ take number (map batch_of bs)))
     (sym (planned-map batch_of (take file files) workers own) ∙ ap (λ (fs : List (List FileBatch)). planned fs workers own) (sym (take-map (map batch_of) file files)))
 
 pub stopped_of : (workers : ℕ) (files : List File) (fields : List FieldShape) (file number : ℕ) (refusal : Refusal) (bs : List Batch) (b : Batch) (h : History)
-    → slice_get (batches_of files) file ≡ Some bs → slice_get bs number ≡ Some b → IsOfWorkers workers h
-    → of h (file % workers) ≡ pairs_of (file % workers) (planned (take file (batches_of files)) workers (file % workers) ++ take number bs)
-    → ((w : ℕ) → w < workers → w ≢ file % workers → IsPrefix (of h w) (pairs_of w (planned (batches_of files) workers w)))
+    → slice_get (batches_of_files files) file ≡ Some bs → slice_get bs number ≡ Some b → IsOfWorkers workers h
+    → of h (file % workers) ≡ pairs_of (file % workers) (planned (take file (batches_of_files files)) workers (file % workers) ++ take number bs)
+    → ((w : ℕ) → w < workers → w ≢ file % workers → IsPrefix (of h w) (pairs_of w (planned (batches_of_files files) workers w)))
     → IsLegal fields h → batch_cause fields h b ≡ Some refusal → IsStopped workers (listed files) fields file number refusal
 stopped_of workers files fields file number refusal bs b h there inside known own others legal stands = record {
   batches = map batch_of bs;
   batch = batch_of b;
   history = h;
-  in_files = slice_get-map (map batch_of) (batches_of files) file ∙ ap (option_map (map batch_of)) there;
+  in_files = slice_get-map (map batch_of) (batches_of_files files) file ∙ ap (option_map (map batch_of)) there;
   in_file = slice_get-map batch_of bs number ∙ ap (option_map batch_of) inside;
   known = known;
-  own = ap (map table_of) own ∙ fronts_listed (batches_of files) workers file number bs;
+  own = ap (map table_of) own ∙ fronts_listed (batches_of_files files) workers file number bs;
   others = λ w below other.
-      subst (λ (l : List Table). IsPrefix (added_by h w) l) (planned_tables w (batches_of files) workers)
-      (map_begun table_of (of h w) (pairs_of w (planned (batches_of files) workers w)) (others w below other));
+      subst (λ (l : List Table). IsPrefix (added_by h w) l) (planned_tables w (batches_of_files files) workers)
+      (map_begun table_of (of h w) (pairs_of w (planned (batches_of_files files) workers w)) (others w below other));
   legal = legal;
   stands = stands;
 }

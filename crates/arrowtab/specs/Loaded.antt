@@ -5,7 +5,7 @@ use Rattle.arrays.specs.Shape.{FieldShape}
 use Rattle.arrays.specs.Batch.{Table}
 use Rattle.table.specs.History.{History, of}
 use Rattle.loads.specs.Plan.{planned}
-use Rattle.reports.specs.FileBatches.{FileBatch, tables_of}
+use Rattle.reports.specs.FileBatches.{FileBatch, batch_tables}
 use Rattle.table.specs.Cause.{IsLegal, difference, handed_cause}
 use Rattle.table.specs.declared.refusal.Refusal.{Refusal}
 
@@ -17,7 +17,7 @@ added_by h worker = map (λ e. e.1) (of h worker)
 pub record IsLoaded (workers : ℕ) (files : List (List FileBatch)) (fields : List FieldShape) (h : History) : Type 0 where
   pub alike : All (All (λ b. difference fields b.fields ≡ None)) files
   pub known : All (λ e. e.0 < workers) h
-  pub each : (w : ℕ) → w < workers → added_by h w ≡ tables_of (planned files workers w)
+  pub each : (w : ℕ) → w < workers → added_by h w ≡ batch_tables (planned files workers w)
   pub legal : IsLegal fields h
 
 -- A cause stands for batch `number` of a file after a legal history: each worker had added a front of its list in the plan,
@@ -29,7 +29,7 @@ pub record IsStopped (workers : ℕ) (files : List (List FileBatch)) (fields : L
   pub in_files : slice_get files file ≡ Some batches
   pub in_file : slice_get batches number ≡ Some batch
   pub known : All (λ e. e.0 < workers) history
-  pub own : added_by history (file % workers) ≡ tables_of (planned (take file files) workers (file % workers) ++ take number batches)
-  pub others : (w : ℕ) → w < workers → w ≢ file % workers → IsPrefix (added_by history w) (tables_of (planned files workers w))
+  pub own : added_by history (file % workers) ≡ batch_tables (planned (take file files) workers (file % workers) ++ take number batches)
+  pub others : (w : ℕ) → w < workers → w ≢ file % workers → IsPrefix (added_by history w) (batch_tables (planned files workers w))
   pub legal : IsLegal fields history
   pub stands : handed_cause fields history batch.fields batch.rows ≡ Some refusal

@@ -2,7 +2,7 @@
 use Rattle.std.specs.Prelude.{◌≡◌, ℕ, List, []}
 use Rattle.answers.specs.Groups.{GroupShape}
 use Rattle.arrays.specs.Shape.{FieldShape}
-use Rattle.job.specs.Jobs.{text_of}
+use Rattle.job.specs.Jobs.{text_of_query}
 use Rattle.job.specs.declared.jobs.Command.{Command}
 use Rattle.job.specs.declared.jobs.Command.TheVariants.{Stats, Schema, Validate, Head, Export, Query}
 use Rattle.job.specs.declared.jobs.Output.{Output}
@@ -16,7 +16,7 @@ use Rattle.reports.specs.Fields.{schema_lines}
 use Rattle.reports.specs.GroupLines.{group_arrays, group_lines, group_records}
 use Rattle.reports.specs.Queried.{RefusesGroups, ShowsGroups}
 use Rattle.reports.specs.Rows.{first_lines}
-use Rattle.reports.specs.Shown.{shown}
+use Rattle.reports.specs.Shown.{stats_text}
 
 -- What is shown of a query's groups, by the form of the output.
 abbrev pub shown_as : Output → QueryShape (List ℕ) → List GroupShape → List ℕ
@@ -26,13 +26,13 @@ shown_as Csv query found = group_records query found
 
 -- The text is the output for so many workers, the stored fields and a history.
 abbrev pub Prints : Command → ℕ → List FieldShape → History → List ℕ → Type 0
-Prints Stats workers fields h text = text ≡ shown workers fields h
+Prints Stats workers fields h text = text ≡ stats_text workers fields h
 Prints Schema workers fields h text = text ≡ schema_lines fields
 Prints Validate workers fields h text = text ≡ []
 Prints (Head count) workers fields h text = text ≡ first_lines count fields h
 Prints Export workers fields h text = text ≡ exported fields h
 Prints (Query source output) workers fields h text =
-    (query : QueryShape (List ℕ)) × ReadsQueryText (text_of source) query × ShowsGroups (shown_as output query) query fields h text
+    (query : QueryShape (List ℕ)) × ReadsQueryText (text_of_query source) query × ShowsGroups (shown_as output query) query fields h text
 
 -- There is none, since the command's query is refused.
 abbrev pub PrintsNothing : Command → List FieldShape → History → QueryFault → Type 0
@@ -41,4 +41,4 @@ PrintsNothing Schema fields h fault = ⊥
 PrintsNothing Validate fields h fault = ⊥
 PrintsNothing (Head count) fields h fault = ⊥
 PrintsNothing Export fields h fault = ⊥
-PrintsNothing (Query source output) fields h fault = (query : QueryShape (List ℕ)) × ReadsQueryText (text_of source) query × RefusesGroups query fields h fault
+PrintsNothing (Query source output) fields h fault = (query : QueryShape (List ℕ)) × ReadsQueryText (text_of_query source) query × RefusesGroups query fields h fault

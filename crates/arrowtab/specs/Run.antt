@@ -6,7 +6,7 @@ use Rattle.ends.specs.Line.{memory_line, output_line}
 use Rattle.ends.specs.Sink.{AppendsFront}
 use Rattle.arrays.specs.Shape.{FieldShape}
 use Rattle.table.specs.History.{History}
-use Rattle.job.specs.Jobs.{names_of, text_of}
+use Rattle.job.specs.Jobs.{names_of, text_of_query}
 use Rattle.job.specs.declared.jobs.Command.{Command}
 use Rattle.job.specs.declared.jobs.Command.TheVariants.{Stats, Schema, Validate, Head, Export, Query}
 use Rattle.job.specs.declared.jobs.Job.{Job}
@@ -16,9 +16,9 @@ use Rattle.json_query.specs.QueryDocumentFault.{QueryBytesFault}
 use Rattle.reports.specs.AddFaultText.{add_fault_text}
 use Rattle.arrowtab.specs.Column.{FailedColumn, IsAllowed, IsColumn, RefusesColumn, column_text, fields_with, history_with}
 use Rattle.arrowtab.specs.Output.{Prints, PrintsNothing}
-use Rattle.reports.specs.Lines.{column_line, unread_line, file_line, query_line, refusal_line}
+use Rattle.reports.specs.Lines.{column_fault_line, unread_line, file_line, query_line, refusal_line}
 use Rattle.arrowtab.specs.Loaded.{IsLoaded, IsStopped}
-use Rattle.reports.specs.FileBatches.{batches_of, table_fields}
+use Rattle.reports.specs.FileBatches.{batches_with_fields, table_fields}
 use Rattle.json_read.specs.JsonFile.{Reads, BytesFault}
 use Rattle.json_base.specs.JsonFaultText.{fault_text}
 use Rattle.json_base.specs.JsonTable.{FileData}
@@ -44,14 +44,14 @@ pub record Answers (job : Job) (inputs : Inputs) (text : List ℕ) : Type 0 wher
   pub given : IsColumn (column_text job) column
   pub allowed : IsAllowed column
   pub history : History
-  pub loaded : IsLoaded job.workers (map batches_of files) (table_fields files) history
+  pub loaded : IsLoaded job.workers (map batches_with_fields files) (table_fields files) history
   pub prints : Prints job.command job.workers (fields_with column (table_fields files)) (history_with column (table_fields files) history) text
 
 -- The sources' bytes are read, and a cause stands for a batch of a file, after those that its worker adds before it.
 pub record Refuses (workers : ℕ) (inputs : Inputs) (file number : ℕ) (refusal : Refusal) : Type 0 where
   pub files : List FileData
   pub read : AreRead inputs files
-  pub stopped : IsStopped workers (map batches_of files) (table_fields files) file number refusal
+  pub stopped : IsStopped workers (map batches_with_fields files) (table_fields files) file number refusal
 
 -- The command's query isn't read: this fault of its bytes stands.
 abbrev pub FailedQuery : Command → JsonFaultKind → List Step → Type 0
@@ -60,7 +60,7 @@ FailedQuery Schema kind path = ⊥
 FailedQuery Validate kind path = ⊥
 FailedQuery (Head count) kind path = ⊥
 FailedQuery Export kind path = ⊥
-FailedQuery (Query source output) kind path = QueryBytesFault (text_of source) kind path
+FailedQuery (Query source output) kind path = QueryBytesFault (text_of_query source) kind path
 
 -- The files of these sources are loaded as for an answer, with the job's column behind all of them, and its query is refused
 -- over their table.
@@ -71,7 +71,7 @@ pub record RefusesQuery (job : Job) (inputs : Inputs) (fault : QueryFault) : Typ
   pub given : IsColumn (column_text job) column
   pub allowed : IsAllowed column
   pub history : History
-  pub loaded : IsLoaded job.workers (map batches_of files) (table_fields files) history
+  pub loaded : IsLoaded job.workers (map batches_with_fields files) (table_fields files) history
   pub refused : PrintsNothing job.command (fields_with column (table_fields files)) (history_with column (table_fields files) history) fault
 
 -- ---- a run, where its ends tell their bytes. An end that doesn't tell them is none here.
@@ -117,6 +117,6 @@ pub data Excuse (job : Job) (inputs : Inputs) (before after : List ℕ) (out_old
   query_refused : (fault : QueryFault) → RefusesQuery job inputs fault
       → Appends old new (query_line (query_fault_text fault)) → Excuse job inputs before after out_old out_new err_old err_new old new
   column_not_read : (kind : JsonFaultKind) (path : List Step) → FailedColumn job kind path
-      → Appends old new (column_line (fault_text kind path)) → Excuse job inputs before after out_old out_new err_old err_new old new
+      → Appends old new (column_fault_line (fault_text kind path)) → Excuse job inputs before after out_old out_new err_old err_new old new
   column_refused : (fault : AddFault) → RefusesColumn job fault
-      → Appends old new (column_line (add_fault_text fault)) → Excuse job inputs before after out_old out_new err_old err_new old new
+      → Appends old new (column_fault_line (add_fault_text fault)) → Excuse job inputs before after out_old out_new err_old err_new old new

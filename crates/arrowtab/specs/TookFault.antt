@@ -4,7 +4,7 @@ use Rattle.ends.specs.Line.{TookLine, memory_line}
 use Rattle.json_base.specs.JsonFaultText.{fault_text}
 use Rattle.query.specs.FaultText.{query_fault_text}
 use Rattle.reports.specs.FaultLine.{column_fault_text, fault_line}
-use Rattle.reports.specs.Lines.{column_line, query_line}
+use Rattle.reports.specs.Lines.{column_fault_line, query_line}
 use Rattle.reports.specs.declared.run_fault.RunFault.{RunFault}
 use Rattle.reports.specs.declared.run_fault.RunFault.TheVariants.{NoMemory, OfColumn, OfFile, QueryUnread, QueryRefused}
 
@@ -22,7 +22,7 @@ IsLineOf names NoMemory text = text ≡ memory_line
 IsLineOf names (OfFile file fault) text = (name : List ℕ) × (slice_get names file ≡ Some name) × (text ≡ fault_line name fault)
 IsLineOf names (QueryUnread f) text = text ≡ query_line (fault_text f.kind f.path)
 IsLineOf names (QueryRefused f) text = text ≡ query_line (query_fault_text f)
-IsLineOf names (OfColumn f) text = text ≡ column_line (column_fault_text f)
+IsLineOf names (OfColumn f) text = text ≡ column_fault_line (column_fault_text f)
 
 -- The sink took the line of a fault, which had to be built, or it failed: that memory ran out may be reported in its place.
 pub data TookFault (names : List (List ℕ)) (fault : RunFault) (failed failures : ℕ) (old new : Option (List ℕ)) : Type 0 where

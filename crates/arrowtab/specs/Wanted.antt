@@ -2,7 +2,7 @@
 use Rattle.std.specs.Prelude.{◌≡◌, ℕ, List, [], Option, Some, option_map, ⊤}
 use Rattle.arrays.specs.Shape.{FieldShape, field_of}
 use Rattle.json_read.specs.JsonField.{FieldTextFault}
-use Rattle.job.specs.Jobs.{text_of}
+use Rattle.job.specs.Jobs.{text_of_query}
 use Rattle.job.specs.declared.jobs.Command.{Command}
 use Rattle.job.specs.declared.jobs.Command.TheVariants as command
 use Rattle.job.specs.declared.jobs.Job.{Job}
@@ -19,7 +19,7 @@ use Rattle.arrowtab.specs.Output.{shown_as}
 use Rattle.arrowtab.specs.Run.{FailedQuery}
 use Rattle.reports.specs.QueryFaults.{IsUnanswered}
 use Rattle.reports.specs.Rows.{first_lines}
-use Rattle.reports.specs.Shown.{shown}
+use Rattle.reports.specs.Shown.{stats_text}
 use Rattle.reports.specs.declared.run_fault.ColumnFault.TheVariants as column
 use Rattle.reports.specs.declared.run_fault.RunFault.{RunFault}
 use Rattle.reports.specs.declared.run_fault.RunFault.TheVariants.{NoMemory, OfColumn, OfFile, QueryUnread, QueryRefused}
@@ -34,7 +34,7 @@ IsWanted command.Schema wanted = wanted ≡ Schema
 IsWanted command.Validate wanted = wanted ≡ Nothing
 IsWanted (command.Head count) wanted = wanted ≡ Head count
 IsWanted command.Export wanted = wanted ≡ Export
-IsWanted (command.Query source output) wanted = (query : QueryText) × (wanted ≡ Groups query output) × ReadsQueryText (text_of source) (named query)
+IsWanted (command.Query source output) wanted = (query : QueryText) × (wanted ≡ Groups query output) × ReadsQueryText (text_of_query source) (named query)
 
 -- The fault of reading the command's query.
 abbrev pub IsUnread : Command → RunFault → Type 0
@@ -61,7 +61,7 @@ IsColumnUnread text (OfColumn (column.Refused fault)) = ⊥
 
 -- The text is what is wanted, for so many workers.
 abbrev pub PrintsWanted : Wanted → ℕ → List FieldShape → History → List ℕ → Type 0
-PrintsWanted Stats workers fields h text = text ≡ shown workers fields h
+PrintsWanted Stats workers fields h text = text ≡ stats_text workers fields h
 PrintsWanted Schema workers fields h text = text ≡ schema_lines fields
 PrintsWanted Nothing workers fields h text = text ≡ []
 PrintsWanted (Head count) workers fields h text = text ≡ first_lines count fields h

@@ -2,7 +2,7 @@
 use Rattle.std.specs.Prelude.{◌≡◌, ℕ, All, List, ◌∷◌, length, map, Option, Some, ⊤}
 use Rattle.arrays.specs.File.{File}
 use Rattle.arrays.specs.Shape.{FieldShape}
-use Rattle.loads.specs.Loaded.{AllLoaded, batches_of, fields_for}
+use Rattle.loads.specs.Loaded.{AllLoaded, batches_of_files, fields_for}
 use Rattle.query.specs.declared.fault.QueryFault.{QueryFault}
 use Rattle.shared.specs.Hand.{AreNew, Hand, HasWidened}
 use Rattle.table.specs.Contents.{Contents}
@@ -21,7 +21,7 @@ use Rattle.arrowtab.specs.declared.wanted.Wanted.{Wanted}
 
 -- The batches of each file.
 abbrev pub listed : List File → List (List FileBatch)
-listed files = map (map batch_of) (batches_of files)
+listed files = map (map batch_of) (batches_of_files files)
 
 -- The table has the first file's fields, and all batches; behind them came the column, where there is one.
 pub record Holds (workers : ℕ) (files : List File) (column : Option FieldShape) (table : Contents) : Type 0 where
@@ -36,11 +36,11 @@ pub record HaveLoaded (fields : List FieldShape) (count : ℕ) (files : List Fil
   pub old : List Hand
   pub many : length old ≡ count
   pub new : AreNew fields 0 old
-  pub loaded : AllLoaded (batches_of files) old hands
+  pub loaded : AllLoaded (batches_of_files files) old hands
 
 -- Each batch has so many columns.
 abbrev pub AreAsWide : ℕ → List File → Type 0
-AreAsWide count files = All (All (λ b. length b.fields ≡ count)) (batches_of files)
+AreAsWide count files = All (All (λ b. length b.fields ≡ count)) (batches_of_files files)
 
 -- The first of the workers added a column of the stored field, and the others nothing.
 pub record IsWidenedFirst (f : FieldShape) (old new : List Hand) : Type 0 where
@@ -52,9 +52,9 @@ pub record IsWidenedFirst (f : FieldShape) (old new : List Hand) : Type 0 where
   pub widened : HasWidened f first next
 
 -- The fault of adding the column.
-abbrev pub StopsColumn : Option FieldShape → ColumnFault → Type 0
-StopsColumn wanted (column.Unread f) = ⊥
-StopsColumn wanted (column.Refused fault) = (f : FieldShape) × (wanted ≡ Some f) × (add_fault f ≡ Some fault)
+abbrev pub StopsAddingColumn : Option FieldShape → ColumnFault → Type 0
+StopsAddingColumn wanted (column.Unread f) = ⊥
+StopsAddingColumn wanted (column.Refused fault) = (f : FieldShape) × (wanted ≡ Some f) × (add_fault f ≡ Some fault)
 
 -- The fault of loading the files, or of adding the column.
 abbrev pub StopsLoading : ℕ → List File → Option FieldShape → RunFault → Type 0
@@ -64,7 +64,7 @@ StopsLoading workers files column (OfFile file (Json fault)) = ⊥
 StopsLoading workers files column (OfFile file (Refused number refusal)) = IsStopped workers (listed files) (fields_for files) file number refusal
 StopsLoading workers files column (QueryUnread f) = ⊥
 StopsLoading workers files column (QueryRefused f) = ⊥
-StopsLoading workers files column (OfColumn f) = StopsColumn column f
+StopsLoading workers files column (OfColumn f) = StopsAddingColumn column f
 
 -- The text is what is wanted of the files, with the column behind them.
 pub record Shows (wanted : Wanted) (workers : ℕ) (files : List File) (column : Option FieldShape) (text : List ℕ) : Type 0 where
@@ -86,4 +86,4 @@ StopsWanted wanted workers files column NoMemory = ⊤
 StopsWanted wanted workers files column (OfFile file fault) = StopsLoading workers files column (OfFile file fault)
 StopsWanted wanted workers files column (QueryUnread f) = ⊥
 StopsWanted wanted workers files column (QueryRefused f) = IsRefusedOver wanted workers files column f
-StopsWanted wanted workers files column (OfColumn f) = StopsColumn column f
+StopsWanted wanted workers files column (OfColumn f) = StopsAddingColumn column f

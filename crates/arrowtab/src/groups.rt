@@ -1,6 +1,6 @@
 //! The output of `query`, over rows that are looked at in several pieces.
 ghost use Rattle.std.specs.Prelude.{◌≡◌, ◌≤◌, IfErr, IfOk, map, string_bytes};
-ghost use Rattle.answers.specs.Answers.{shape_of};
+ghost use Rattle.answers.specs.Answers.{group_shape};
 ghost use Rattle.arrowtab.specs.Output.{shown_as};
 ghost use Rattle.query.specs.Resolved.{named};
 ghost use Rattle.reports.specs.Queried.{ShowsGroups};
@@ -47,7 +47,7 @@ fn answer_text(
     answer: &Answer,
 ) -> Result<String, NoMemory>
     ensures { IfOk result (λ text. string_bytes text
-        ≡ shown_as output (named query.now) (map shape_of answer.now.groups.items)) }
+        ≡ shown_as output (named query.now) (map group_shape answer.now.groups.items)) }
 {
     match output {
         Output::Lines => group_lines(alloc, answer),

@@ -6,14 +6,14 @@ ghost use Rattle.table.specs.History.{History};
 ghost use Rattle.arrowtab.specs.Column.{fields_with, history_with};
 ghost use Rattle.arrowtab.specs.Loaded.{IsLoaded};
 ghost use Rattle.reports.specs.FileBatches.{FileBatch};
-ghost use Rattle.reports.specs.Shown.{shown};
+ghost use Rattle.reports.specs.Shown.{stats_text};
 
 /// What `stats` prints doesn't show whose batches came first: it is one text for all histories to which so many workers
 /// load the same files, with a column behind them or without.
 pub fn stats_are_of_the_files_alone()
     ensures { (column : Option FieldShape) (workers : ℕ) (files : List (List FileBatch)) (fields : List FieldShape) (h k : History) →
         IsLoaded workers files fields h → IsLoaded workers files fields k
-        → shown workers (fields_with column fields) (history_with column fields h) ≡ shown workers (fields_with column fields) (history_with column fields k) }
+        → stats_text workers (fields_with column fields) (history_with column fields h) ≡ stats_text workers (fields_with column fields) (history_with column fields k) }
 {}
 
 /// There is one history to which one worker loads the files: all their batches, in order.

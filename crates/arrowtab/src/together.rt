@@ -6,13 +6,13 @@ ghost use mathlib.Core.List.{IsPrefix};
 ghost use Rattle.arrays.specs.Batch.{Batch};
 ghost use Rattle.arrays.specs.Shape.{field_of};
 ghost use Rattle.arrowtab.specs.Worked.{AreAsWide, HaveLoaded, Holds, IsWidenedFirst, StopsLoading};
-ghost use Rattle.loads.specs.Loaded.{batches_of, fields_for};
+ghost use Rattle.loads.specs.Loaded.{batches_of_files, fields_for};
 ghost use Rattle.shared.specs.Balance.{IsOfWorkers};
-ghost use Rattle.shared.specs.Hand.{AreNew, IsWhole, columns_of_hand};
+ghost use Rattle.shared.specs.Hand.{AreNew, HasAllItsPairs, columns_of_hand};
 ghost use Rattle.shared.specs.Known.{IsLegalKnown, known_of};
 ghost use Rattle.shared.specs.Missing.{AllThere};
 ghost use Rattle.shared.specs.Named.{IsNamed};
-ghost use Rattle.shared.specs.Opened.{IsCount};
+ghost use Rattle.shared.specs.Opened.{IsWorkerCount};
 ghost use Rattle.table.specs.Stored.{stored_field};
 ghost use Rattle.table.specs.Widened.{add_fault};
 
@@ -58,7 +58,7 @@ fn load_under<N: Naming + Send + Sync, W: Wait + Sync, T: Threads + Sync>(
     column: Option<Field>,
 ) -> Result<Arc<Version>, RunFault>
     requires some { 0 < length files.now }
-    requires count { IsCount opening.workers }
+    requires count { IsWorkerCount opening.workers }
     requires named { IsNamed N.book N.fields N.calls N.rows N.columns N.workers opening }
     requires fields { opening.fields ≡ fields_for files.now }
     ensures ok { IfOk result (λ v. Holds opening.workers files.now (option_map field_of column) (arc_value v)) }
@@ -196,7 +196,7 @@ fn add_fault_of(fault: AddFault) -> RunFault
 /// Whether each batch of the files has so many columns.
 fn are_as_wide(files: &[File], count: usize) -> bool
     ensures all { IsTrue result → AreAsWide count files.now }
-    ensures other { IsFalse result → Any (Any (λ b. length b.fields ≢ count)) (batches_of files.now) }
+    ensures other { IsFalse result → Any (Any (λ b. length b.fields ≢ count)) (batches_of_files files.now) }
 {
     for file in files {
         if !is_as_wide(file.batches(), count) {
@@ -226,7 +226,7 @@ fn gather_all<N: Naming, P: Publish<Item = Shown<N>>, W: Wait>(
     hands: Vec<Worker<N>>,
 ) -> Result<Arc<Version>, RunFault>
     requires { AllThere table hands.items }
-    ensures whole { IfOk result (λ v. All (IsWhole (known_of (arc_value v))) hands.items) }
+    ensures whole { IfOk result (λ v. All (HasAllItsPairs (known_of (arc_value v))) hands.items) }
     ensures known { IfOk result (λ v. IsOfWorkers table (arc_value v).history) }
     ensures legal { IfOk result (λ v. IsLegalKnown (known_of (arc_value v))) }
     ensures columns { IfOk result (λ v. length (arc_value v).fields ≡ length N.fields + sum_by columns_of_hand hands.items) }

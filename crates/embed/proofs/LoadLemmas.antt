@@ -23,13 +23,13 @@ use Rattle.table.specs.declared.refusal.Refusal.TheVariants as refusal
 use Rattle.table.specs.declared.refusal.Refusal.TheVariants.{SchemaDiffers}
 use Rattle.reports.proofs.FileLemmas.{AreKept, data_of, file-listed}
 use Rattle.reports.proofs.ParseLemmas.{reported_stands, zip_more}
-use Rattle.reports.specs.FileBatches.{FileBatch, batch_of, batches_of, table_fields}
+use Rattle.reports.specs.FileBatches.{FileBatch, batch_of, batches_with_fields, table_fields}
 use Rattle.reports.specs.Parsed.{IsTextOf}
 use Rattle.reports.specs.declared.run_fault.FileFault.TheVariants.{CannotRead, Json, Refused}
 use Rattle.reports.specs.declared.run_fault.RunFault.{RunFault}
 use Rattle.reports.specs.declared.run_fault.RunFault.TheVariants.{NoMemory, OfColumn, OfFile, QueryUnread, QueryRefused}
-use Rattle.embed.specs.Loaded.{HasAdded, Holds, all_batches}
-use Rattle.embed.specs.Refused.{IsRefused, IsStoppedIn, Stops, StopsIn, StopsLoading}
+use Rattle.embed.specs.Loaded.{AddsAll, HoldsFiles, all_batches}
+use Rattle.embed.specs.Refused.{IsBatchRefused, IsStoppedIn, StopsTexts, StopsIn, StopsFiles}
 
 -- ---- texts
 
@@ -54,10 +54,10 @@ texts_more texts files new i text f read at is pushed =
 
 -- the fault of a text behind those that were read
 pub unread_stops : (texts : List (List ℕ)) (files : List File) (i : ℕ) (text : List ℕ) (fault : JsonFault) (reported : RunFault) → AllZip IsTextOf (take i texts) files → slice_get texts i ≡ Some text
-    → Tells (BytesFault text) fault → (reported ≡ NoMemory) ⊎ ((fault.kind ≢ wanting) × (reported ≡ OfFile i (Json fault))) → Stops texts reported
-unread_stops texts files i text fault reported read at tells (inl is) = subst (Stops texts) (sym is) tt
+    → Tells (BytesFault text) fault → (reported ≡ NoMemory) ⊎ ((fault.kind ≢ wanting) × (reported ≡ OfFile i (Json fault))) → StopsTexts texts reported
+unread_stops texts files i text fault reported read at tells (inl is) = subst (StopsTexts texts) (sym is) tt
 unread_stops texts files i text fault reported read at tells (inr is) =
-    subst (Stops texts) (sym is.1)
+    subst (StopsTexts texts) (sym is.1)
     (record { text = text; files = data_of files; at = at; read = texts_read (take i texts) files read; stands = reported_stands text fault is.0 tells })
 
 -- ---- batches
@@ -87,7 +87,7 @@ batch_at value xs n x b below is same =
     ∙ ap (λ v. Some (batch_of v)) (ap value (sym is) ∙ sym same)
 
 -- a new table has none
-pub added-none : (fields : List FieldShape) → HasAdded [] fields []
+pub added-none : (fields : List FieldShape) → AddsAll [] fields []
 added-none fields = record {
   alike = All-nil (λ (b : FileBatch). difference fields b.fields ≡ None);
   whole = refl;
@@ -95,8 +95,8 @@ added-none fields = record {
 }
 
 -- one batch more
-pub added-more : (before : List FileBatch) (fields : List FieldShape) (old new : History) (b : FileBatch) → HasAdded before fields old → difference fields b.fields ≡ None → new ≡ old ++ (0, b.rows) ∷ []
-    → IsLegal fields new → HasAdded (before ++ b ∷ []) fields new
+pub added-more : (before : List FileBatch) (fields : List FieldShape) (old new : History) (b : FileBatch) → AddsAll before fields old → difference fields b.fields ≡ None → new ≡ old ++ (0, b.rows) ∷ []
+    → IsLegal fields new → AddsAll (before ++ b ∷ []) fields new
 added-more before fields old new b is same more legal = record {
   alike = All-push (λ (b : FileBatch). difference fields b.fields ≡ None) before b is.alike same;
   whole = more ∙ ap (λ (h : History). h ++ (0, b.rows) ∷ []) is.whole ∙ sym (map-append (λ (b : FileBatch). (0, b.rows)) before (b ∷ []));
@@ -105,11 +105,11 @@ added-more before fields old new b is same more legal = record {
 
 -- A front of the batches of a file was added to the table.
 abbrev pub AddsFront : List FileBatch → ℕ → List FieldShape → History → History → Type 0
-AddsFront batches n fields old new = (before : List FileBatch) → HasAdded before fields old → HasAdded (before ++ take n batches) fields new
+AddsFront batches n fields old new = (before : List FileBatch) → AddsAll before fields old → AddsAll (before ++ take n batches) fields new
 
 module _ (batches : List FileBatch) (fields : List FieldShape) (old : History) where
   pub front-none : AddsFront batches 0 fields old old
-  front-none = λ before is. subst (λ (l : List FileBatch). HasAdded l fields old) (sym (ap (λ (l : List FileBatch). before ++ l) (none batches) ∙ append-nil before)) is
+  front-none = λ before is. subst (λ (l : List FileBatch). AddsAll l fields old) (sym (ap (λ (l : List FileBatch). before ++ l) (none batches) ∙ append-nil before)) is
     where
       none : (bs : List FileBatch) → take 0 bs ≡ []
       none [] = refl
@@ -119,7 +119,7 @@ module _ (batches : List FileBatch) (fields : List FieldShape) (old : History) w
       → new ≡ now ++ (0, b.rows) ∷ [] → IsLegal fields new → AddsFront batches (n + 1) fields old new
   front-more n b now new at so_far same more legal = λ before is.
       let next : take (n + 1) batches ≡ take n batches ++ b ∷ [] = take_more batches n b (slice_get_within batches n b at) ∙ ap (λ x. take n batches ++ x ∷ []) (there batches n b at) in
-      subst (λ (l : List FileBatch). HasAdded l fields new) (append_assoc before (take n batches) (b ∷ []) ∙ ap (λ (l : List FileBatch). before ++ l) (sym next))
+      subst (λ (l : List FileBatch). AddsAll l fields new) (append_assoc before (take n batches) (b ∷ []) ∙ ap (λ (l : List FileBatch). before ++ l) (sym next))
       (added-more (before ++ take n batches) fields now new b (so_far before is) same more legal)
     where
       there : (bs : List FileBatch) (n : ℕ) (b : FileBatch) → slice_get bs n ≡ Some b → get_or bs n b ≡ b
@@ -129,7 +129,7 @@ module _ (batches : List FileBatch) (fields : List FieldShape) (old : History) w
   pub front-stops : (n place : ℕ) (b : Batch) (now : History) (e : Refusal) (reported : RunFault) → slice_get batches n ≡ Some (batch_of b) → AddsFront batches n fields old now
       → ((e ≡ refusal.NoMemory → ⊥) → batch_cause fields now b ≡ Some e)
       → ((e ≡ refusal.NoMemory) × (reported ≡ NoMemory)) ⊎ ((e ≢ refusal.NoMemory) × (reported ≡ OfFile place (Refused n e)))
-      → (before : List FileBatch) → HasAdded before fields old → StopsIn before batches fields place reported
+      → (before : List FileBatch) → AddsAll before fields old → StopsIn before batches fields place reported
   front-stops n place b now e reported at so_far stands (inl is) before has = subst (StopsIn before batches fields place) (sym is.1) tt
   front-stops n place b now e reported at so_far stands (inr is) before has =
       let there = so_far before has in
@@ -145,11 +145,11 @@ module _ (batches : List FileBatch) (fields : List FieldShape) (old : History) w
 
 -- ---- files
 
-all-more : (files : List FileData) (i : ℕ) (f : FileData) → slice_get files i ≡ Some f → i < length files → all_batches (take (i + 1) files) ≡ all_batches (take i files) ++ batches_of f
+all-more : (files : List FileData) (i : ℕ) (f : FileData) → slice_get files i ≡ Some f → i < length files → all_batches (take (i + 1) files) ≡ all_batches (take i files) ++ batches_with_fields f
 all-more files i f at below =
     ap all_batches (take_more files i f below ∙ ap (λ x. take i files ++ x ∷ []) (get_or_from_slice_get files i f f at))
-    ∙ flat_map-append batches_of (take i files) (f ∷ [])
-    ∙ ap (λ (l : List FileBatch). all_batches (take i files) ++ l) (append-nil (batches_of f))
+    ∙ flat_map-append batches_with_fields (take i files) (f ∷ [])
+    ∙ ap (λ (l : List FileBatch). all_batches (take i files) ++ l) (append-nil (batches_with_fields f))
 
 same : {g f : File} → Some g ≡ Some f → g ≡ f
 same at = cc at
@@ -163,23 +163,23 @@ module _ (files : List File) (kept : AreKept files) (i : ℕ) (f : File) (at : s
   data_at : slice_get (data_of files) i ≡ Some (file_of f)
   data_at = slice_get-map file_of files i ∙ ap (option_map file_of) at
 
-  listed : map batch_of f.batches ≡ batches_of (file_of f)
+  listed : map batch_of f.batches ≡ batches_with_fields (file_of f)
   listed = sym (file-listed f.fields f.batches (kept_at files i f kept at))
 
   -- one file more is loaded
-  pub files-more : (fields : List FieldShape) (new : History) → i < length files → HasAdded (all_batches (take i (data_of files)) ++ map batch_of f.batches) fields new
-      → HasAdded (all_batches (take (i + 1) (data_of files))) fields new
+  pub files-more : (fields : List FieldShape) (new : History) → i < length files → AddsAll (all_batches (take i (data_of files)) ++ map batch_of f.batches) fields new
+      → AddsAll (all_batches (take (i + 1) (data_of files))) fields new
   files-more fields new below is =
-      subst (λ (l : List FileBatch). HasAdded l fields new)
+      subst (λ (l : List FileBatch). AddsAll l fields new)
       (ap (λ (l : List FileBatch). all_batches (take i (data_of files)) ++ l) listed ∙ sym (all-more (data_of files) i (file_of f) data_at (omega (arith, below, length-map files file_of)))) is
 
   -- .. or one of its batches is refused
-  pub files-stop : (fault : RunFault) → StopsIn (all_batches (take i (data_of files))) (map batch_of f.batches) (table_fields (data_of files)) i fault → StopsLoading (data_of files) fault
+  pub files-stop : (fault : RunFault) → StopsIn (all_batches (take i (data_of files))) (map batch_of f.batches) (table_fields (data_of files)) i fault → StopsFiles (data_of files) fault
   files-stop NoMemory stops = tt
   files-stop (OfFile file CannotRead) stops = absurd stops
   files-stop (OfFile file (Json g)) stops = absurd stops
   files-stop (OfFile file (Refused number e)) stops =
-      subst (λ n. IsRefused (data_of files) n number e) (sym stops.0) (record {
+      subst (λ n. IsBatchRefused (data_of files) n number e) (sym stops.0) (record {
         one = file_of f;
         at = data_at;
         stopped = subst (λ (l : List FileBatch). IsStoppedIn (all_batches (take i (data_of files))) l (table_fields (data_of files)) number e) listed stops.1;
@@ -194,17 +194,17 @@ file_at files i f below is = slice_get-get_or files i f below ∙ ap (λ x. Some
 
 -- all files are loaded
 pub all_loaded : (texts : List (List ℕ)) (files seen : List File) (t v : Contents) → AllZip IsTextOf texts files → seen ≡ files → v ≡ t → t.fields ≡ table_fields (data_of seen)
-    → HasAdded (all_batches (data_of seen)) t.fields t.history → Holds texts v.fields v.history
+    → AddsAll (all_batches (data_of seen)) t.fields t.history → HoldsFiles texts v.fields v.history
 all_loaded texts files seen t v read same shown opened loaded =
-    subst (λ (c : Contents). Holds texts c.fields c.history) (sym shown) (record {
+    subst (λ (c : Contents). HoldsFiles texts c.fields c.history) (sym shown) (record {
       files = data_of files;
       read = texts_read texts files read;
       opened = subst (λ (fs : List File). t.fields ≡ table_fields (data_of fs)) same opened;
-      loaded = subst (λ (fs : List File). HasAdded (all_batches (data_of fs)) t.fields t.history) same loaded;
+      loaded = subst (λ (fs : List File). AddsAll (all_batches (data_of fs)) t.fields t.history) same loaded;
     })
 
 -- what stops loading the files of texts
-pub loading_stops : (texts : List (List ℕ)) (files : List File) (fault : RunFault) → AllZip IsTextOf texts files → StopsLoading (data_of files) fault → Stops texts fault
+pub loading_stops : (texts : List (List ℕ)) (files : List File) (fault : RunFault) → AllZip IsTextOf texts files → StopsFiles (data_of files) fault → StopsTexts texts fault
 loading_stops texts files NoMemory read stops = tt
 loading_stops texts files (OfFile file CannotRead) read stops = absurd stops
 loading_stops texts files (OfFile file (Json f)) read stops = absurd stops

@@ -6,25 +6,25 @@ use Rattle.json_base.specs.JsonTable.{FileData}
 use Rattle.json_read.specs.JsonFile.{Reads}
 use Rattle.table.specs.Cause.{IsLegal, difference}
 use Rattle.table.specs.History.{History}
-use Rattle.reports.specs.FileBatches.{FileBatch, batches_of, table_fields}
+use Rattle.reports.specs.FileBatches.{FileBatch, batches_with_fields, table_fields}
 
 -- The batches of all files, in order.
 abbrev pub all_batches : List FileData → List FileBatch
-all_batches files = flat_map batches_of files
+all_batches files = flat_map batches_with_fields files
 
 -- Each of the batches in a call of its own, all by worker 0.
 abbrev pub added : List FileBatch → History
 added batches = map (λ b. (0, b.rows)) batches
 
 -- Under the fields of the table, each of these batches was added, and nothing else.
-pub record HasAdded (batches : List FileBatch) (fields : List FieldShape) (h : History) : Type 0 where
+pub record AddsAll (batches : List FileBatch) (fields : List FieldShape) (h : History) : Type 0 where
   pub alike : All (λ b. difference fields b.fields ≡ None) batches
   pub whole : h ≡ added batches
   pub legal : IsLegal fields h
 
 -- The table of the texts' files: it has the first file's fields, and all batches.
-pub record Holds (texts : List (List ℕ)) (fields : List FieldShape) (h : History) : Type 0 where
+pub record HoldsFiles (texts : List (List ℕ)) (fields : List FieldShape) (h : History) : Type 0 where
   pub files : List FileData
   pub read : AllZip Reads texts files
   pub opened : fields ≡ table_fields files
-  pub loaded : HasAdded (all_batches files) fields h
+  pub loaded : AddsAll (all_batches files) fields h

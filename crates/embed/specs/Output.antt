@@ -11,17 +11,17 @@ use Rattle.reports.specs.Exported.{exported}
 use Rattle.reports.specs.FaultLine.{line_under}
 use Rattle.reports.specs.Fields.{schema_lines}
 use Rattle.reports.specs.Queried.{PrintsGroups, RefusesGroups}
-use Rattle.reports.specs.Shown.{shown}
+use Rattle.reports.specs.Shown.{stats_text}
 use Rattle.reports.specs.declared.run_fault.RunFault.{RunFault}
 use Rattle.reports.specs.declared.run_fault.RunFault.TheVariants.{NoMemory, OfColumn, OfFile, QueryUnread, QueryRefused}
-use Rattle.embed.specs.Loaded.{Holds}
-use Rattle.embed.specs.Refused.{Stops}
+use Rattle.embed.specs.Loaded.{HoldsFiles}
+use Rattle.embed.specs.Refused.{StopsTexts}
 
 -- What is said holds of the table of these texts' files.
 pub record OfTable (texts : List (List ℕ)) (says : List FieldShape → History → Type 0) : Type 0 where
   pub fields : List FieldShape
   pub history : History
-  pub holds : Holds texts fields history
+  pub holds : HoldsFiles texts fields history
   pub is : says fields history
 
 -- All files can be loaded into one table.
@@ -30,7 +30,7 @@ AreLoadable texts = OfTable texts (λ fields h. ⊤)
 
 -- The text is what `stats` prints of them, for one worker.
 abbrev pub IsStats : List (List ℕ) → List ℕ → Type 0
-IsStats texts text = OfTable texts (λ fields h. text ≡ shown 1 fields h)
+IsStats texts text = OfTable texts (λ fields h. text ≡ stats_text 1 fields h)
 
 -- The text is what `schema` prints of them.
 abbrev pub IsSchema : List (List ℕ) → List ℕ → Type 0
@@ -51,7 +51,7 @@ IsQueryRefused query texts fault = (shape : QueryShape (List ℕ)) × ReadsQuery
 -- The fault of a query over files.
 abbrev pub StopsQuery : List ℕ → List (List ℕ) → RunFault → Type 0
 StopsQuery query texts NoMemory = ⊤
-StopsQuery query texts (OfFile file fault) = Stops texts (OfFile file fault)
+StopsQuery query texts (OfFile file fault) = StopsTexts texts (OfFile file fault)
 StopsQuery query texts (QueryUnread f) = QueryBytesFault query f.kind f.path
 StopsQuery query texts (QueryRefused f) = IsQueryRefused query texts f
 StopsQuery query texts (OfColumn f) = ⊥
@@ -65,5 +65,5 @@ file_name (QueryRefused f) = []
 file_name (OfColumn f) = []
 
 -- The line of a fault.
-abbrev pub fault_line : RunFault → List ℕ
-fault_line fault = line_under (file_name fault) fault
+abbrev pub line_of_fault : RunFault → List ℕ
+line_of_fault fault = line_under (file_name fault) fault

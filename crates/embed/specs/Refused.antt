@@ -7,14 +7,14 @@ use Rattle.json_base.specs.declared.fault.JsonFault.{JsonFault}
 use Rattle.json_read.specs.JsonFile.{BytesFault, Reads}
 use Rattle.table.specs.Cause.{IsLegal, handed_cause}
 use Rattle.table.specs.declared.refusal.Refusal.{Refusal}
-use Rattle.reports.specs.FileBatches.{FileBatch, batches_of, table_fields}
+use Rattle.reports.specs.FileBatches.{FileBatch, batches_with_fields, table_fields}
 use Rattle.reports.specs.declared.run_fault.FileFault.TheVariants.{CannotRead, Json, Refused}
 use Rattle.reports.specs.declared.run_fault.RunFault.{RunFault}
 use Rattle.reports.specs.declared.run_fault.RunFault.TheVariants.{NoMemory, OfColumn, OfFile, QueryUnread, QueryRefused}
 use Rattle.embed.specs.Loaded.{added, all_batches}
 
 -- This text is no file, and those before it are.
-pub record IsUnread (texts : List (List ℕ)) (file : ℕ) (fault : JsonFault) : Type 0 where
+pub record IsUnreadText (texts : List (List ℕ)) (file : ℕ) (fault : JsonFault) : Type 0 where
   pub text : List ℕ
   pub files : List FileData
   pub at : slice_get texts file ≡ Some text
@@ -39,27 +39,27 @@ StopsIn before batches fields place (QueryRefused f) = ⊥
 StopsIn before batches fields place (OfColumn f) = ⊥
 
 -- A batch of this file is refused, after those of the files before it.
-pub record IsRefused (files : List FileData) (file number : ℕ) (refusal : Refusal) : Type 0 where
+pub record IsBatchRefused (files : List FileData) (file number : ℕ) (refusal : Refusal) : Type 0 where
   pub one : FileData
   pub at : slice_get files file ≡ Some one
-  pub stopped : IsStoppedIn (all_batches (take file files)) (batches_of one) (table_fields files) number refusal
+  pub stopped : IsStoppedIn (all_batches (take file files)) (batches_with_fields one) (table_fields files) number refusal
 
 -- The fault of loading files.
-abbrev pub StopsLoading : List FileData → RunFault → Type 0
-StopsLoading files NoMemory = ⊤
-StopsLoading files (OfFile file CannotRead) = ⊥
-StopsLoading files (OfFile file (Json f)) = ⊥
-StopsLoading files (OfFile file (Refused number refusal)) = IsRefused files file number refusal
-StopsLoading files (QueryUnread f) = ⊥
-StopsLoading files (QueryRefused f) = ⊥
-StopsLoading files (OfColumn f) = ⊥
+abbrev pub StopsFiles : List FileData → RunFault → Type 0
+StopsFiles files NoMemory = ⊤
+StopsFiles files (OfFile file CannotRead) = ⊥
+StopsFiles files (OfFile file (Json f)) = ⊥
+StopsFiles files (OfFile file (Refused number refusal)) = IsBatchRefused files file number refusal
+StopsFiles files (QueryUnread f) = ⊥
+StopsFiles files (QueryRefused f) = ⊥
+StopsFiles files (OfColumn f) = ⊥
 
 -- The fault of reading files from their texts, or of loading them.
-abbrev pub Stops : List (List ℕ) → RunFault → Type 0
-Stops texts NoMemory = ⊤
-Stops texts (OfFile file CannotRead) = ⊥
-Stops texts (OfFile file (Json f)) = IsUnread texts file f
-Stops texts (OfFile file (Refused number refusal)) = (files : List FileData) × AllZip Reads texts files × IsRefused files file number refusal
-Stops texts (QueryUnread f) = ⊥
-Stops texts (QueryRefused f) = ⊥
-Stops texts (OfColumn f) = ⊥
+abbrev pub StopsTexts : List (List ℕ) → RunFault → Type 0
+StopsTexts texts NoMemory = ⊤
+StopsTexts texts (OfFile file CannotRead) = ⊥
+StopsTexts texts (OfFile file (Json f)) = IsUnreadText texts file f
+StopsTexts texts (OfFile file (Refused number refusal)) = (files : List FileData) × AllZip Reads texts files × IsBatchRefused files file number refusal
+StopsTexts texts (QueryUnread f) = ⊥
+StopsTexts texts (QueryRefused f) = ⊥
+StopsTexts texts (OfColumn f) = ⊥

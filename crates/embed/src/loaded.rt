@@ -1,14 +1,14 @@
 //! A table in one's own process.
 ghost use Rattle.std.specs.Prelude.{◌≡◌, IfErr, IfOk, map, string_bytes};
 ghost use Rattle.embed.specs.Answer.{IsAnswerTable, PrintsAnswer, StopsAnswer};
-ghost use Rattle.embed.specs.Loaded.{Holds};
-ghost use Rattle.embed.specs.Refused.{Stops};
+ghost use Rattle.embed.specs.Loaded.{HoldsFiles};
+ghost use Rattle.embed.specs.Refused.{StopsTexts};
 ghost use Rattle.query.specs.Resolved.{named};
 ghost use Rattle.reports.specs.Exported.{exported};
 ghost use Rattle.reports.specs.Fields.{schema_lines};
 ghost use Rattle.reports.specs.Queried.{PrintsGroups};
 ghost use Rattle.reports.specs.QueryFaults.{IsUnanswered};
-ghost use Rattle.reports.specs.Shown.{shown};
+ghost use Rattle.reports.specs.Shown.{stats_text};
 
 use crate::loading::load_files;
 use crate::reading::read_files;
@@ -28,8 +28,8 @@ pub struct Loaded {
 impl Loaded {
     /// The table of the files of these texts.
     pub fn open(alloc: Global, texts: &[&[u8]]) -> Result<Loaded, RunFault>
-        ensures ok { IfOk result (λ t. Holds (map (λ t. t.now) texts.now) t.state.fields t.state.history) }
-        ensures err { IfErr result (Stops (map (λ t. t.now) texts.now)) }
+        ensures ok { IfOk result (λ t. HoldsFiles (map (λ t. t.now) texts.now) t.state.fields t.state.history) }
+        ensures err { IfErr result (StopsTexts (map (λ t. t.now) texts.now)) }
     {
         match read_files(alloc, texts) {
             Ok(files) => match load_files(alloc, &files) {
@@ -60,7 +60,7 @@ impl Loaded {
     /// What `stats` prints of the table: how many rows it has, how many batches and rows each of so many workers added, and the
     /// statistics of each column.
     pub fn stats(&self, alloc: Global, workers: u32) -> Result<String, RunFault>
-        ensures ok { IfOk result (λ text. string_bytes text ≡ shown workers self.now.state.fields self.now.state.history) }
+        ensures ok { IfOk result (λ text. string_bytes text ≡ stats_text workers self.now.state.fields self.now.state.history) }
         ensures err { IfErr result (λ fault. fault ≡ RunFault.NoMemory) }
     {
         self.snapshot()?.stats(alloc, workers)

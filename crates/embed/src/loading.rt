@@ -2,8 +2,8 @@
 ghost use Rattle.std.specs.Prelude.{◌≡◌, ◌≢◌, ◌⊎◌, ◌++◌, IfErr, IfOk, List, OnOk, map};
 ghost use Rattle.std.specs.Arc.{arc_value};
 ghost use Rattle.std.specs.List.{AllByRecursion};
-ghost use Rattle.embed.specs.Loaded.{HasAdded, all_batches};
-ghost use Rattle.embed.specs.Refused.{StopsIn, StopsLoading};
+ghost use Rattle.embed.specs.Loaded.{AddsAll, all_batches};
+ghost use Rattle.embed.specs.Refused.{StopsIn, StopsFiles};
 ghost use Rattle.json_read.specs.JsonFile.{AreUnder, file_of};
 ghost use Rattle.reports.specs.FileBatches.{FileBatch, batch_of, table_fields};
 ghost use Rattle.table.specs.Stored.{stored_fields};
@@ -19,8 +19,8 @@ use table::{Refusal, TableState};
 pub(crate) fn load_files(alloc: Global, files: &[File]) -> Result<TableState, RunFault>
     requires { AllByRecursion (λ f. AreUnder f.fields f.batches) files.now }
     ensures fields { IfOk result (λ t. t.fields ≡ table_fields (map file_of files.now)) }
-    ensures loaded { IfOk result (λ t. HasAdded (all_batches (map file_of files.now)) t.fields t.history) }
-    ensures err { IfErr result (StopsLoading (map file_of files.now)) }
+    ensures loaded { IfOk result (λ t. AddsAll (all_batches (map file_of files.now)) t.fields t.history) }
+    ensures err { IfErr result (StopsFiles (map file_of files.now)) }
 {
     let schema = first_schema(alloc, files)?;
     let mut table = TableState::new(alloc, schema)?;
@@ -53,9 +53,9 @@ fn add_batches(
     batches: &[Arc<RecordBatch>],
 ) -> Result<(), RunFault>
     ensures fields { OnOk result (table.new.fields ≡ table.old.fields) }
-    ensures loaded { (before : List FileBatch) → HasAdded before table.old.fields table.old.history
-        → OnOk result (HasAdded (before ++ map batch_of (map arc_value batches.now)) table.old.fields table.new.history) }
-    ensures err { (before : List FileBatch) → HasAdded before table.old.fields table.old.history
+    ensures loaded { (before : List FileBatch) → AddsAll before table.old.fields table.old.history
+        → OnOk result (AddsAll (before ++ map batch_of (map arc_value batches.now)) table.old.fields table.new.history) }
+    ensures err { (before : List FileBatch) → AddsAll before table.old.fields table.old.history
         → IfErr result (StopsIn before (map batch_of (map arc_value batches.now)) table.old.fields place) }
 {
     for number in 0..batches.len() {

@@ -6,7 +6,7 @@ ghost use Rattle.reports.specs.Exported.{exported};
 ghost use Rattle.reports.specs.Fields.{schema_lines};
 ghost use Rattle.reports.specs.Queried.{PrintsGroups};
 ghost use Rattle.reports.specs.QueryFaults.{IsUnanswered};
-ghost use Rattle.reports.specs.Shown.{shown};
+ghost use Rattle.reports.specs.Shown.{stats_text};
 
 use crate::answering::answer_table;
 use crate::loaded::Loaded;
@@ -36,7 +36,7 @@ impl Snapshot {
     /// What `stats` prints of the table: how many rows it had, how many batches and rows each of so many workers had added, and the
     /// statistics of each column.
     pub fn stats(&self, alloc: Global, workers: u32) -> Result<String, RunFault>
-        ensures ok { IfOk result (λ text. string_bytes text ≡ shown workers self.now.version.fields self.now.version.history) }
+        ensures ok { IfOk result (λ text. string_bytes text ≡ stats_text workers self.now.version.fields self.now.version.history) }
         ensures err { IfErr result (λ fault. fault ≡ RunFault.NoMemory) }
     {
         Ok(stats_text(alloc, workers, &self.version)?)

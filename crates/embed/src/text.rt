@@ -1,7 +1,7 @@
 //! What is printed of files.
 ghost use Rattle.std.specs.Prelude.{◌≡◌, IfErr, IfOk, OnOk, map, string_bytes};
-ghost use Rattle.embed.specs.Output.{AreLoadable, IsAnswered, IsExport, IsSchema, IsStats, StopsQuery, fault_line};
-ghost use Rattle.embed.specs.Refused.{Stops};
+ghost use Rattle.embed.specs.Output.{AreLoadable, IsAnswered, IsExport, IsSchema, IsStats, StopsQuery, line_of_fault};
+ghost use Rattle.embed.specs.Refused.{StopsTexts};
 
 use crate::loaded::Loaded;
 use colbits::NoMemory;
@@ -11,7 +11,7 @@ use std::alloc::Global;
 /// What `stats` prints of the files of these texts: how many rows they have, and the statistics of each column.
 pub fn stats(alloc: Global, texts: &[&[u8]]) -> Result<String, RunFault>
     ensures ok { IfOk result (λ text. IsStats (map (λ t. t.now) texts.now) (string_bytes text)) }
-    ensures err { IfErr result (Stops (map (λ t. t.now) texts.now)) }
+    ensures err { IfErr result (StopsTexts (map (λ t. t.now) texts.now)) }
 {
     match Loaded::open(alloc, texts) {
         Ok(table) => table.stats(alloc, 1),
@@ -22,7 +22,7 @@ pub fn stats(alloc: Global, texts: &[&[u8]]) -> Result<String, RunFault>
 /// What `schema` prints of the files of these texts: the fields of their table.
 pub fn schema(alloc: Global, texts: &[&[u8]]) -> Result<String, RunFault>
     ensures ok { IfOk result (λ text. IsSchema (map (λ t. t.now) texts.now) (string_bytes text)) }
-    ensures err { IfErr result (Stops (map (λ t. t.now) texts.now)) }
+    ensures err { IfErr result (StopsTexts (map (λ t. t.now) texts.now)) }
 {
     match Loaded::open(alloc, texts) {
         Ok(table) => table.schema(alloc),
@@ -33,7 +33,7 @@ pub fn schema(alloc: Global, texts: &[&[u8]]) -> Result<String, RunFault>
 /// What `export` prints of the files of these texts: one file with all their batches.
 pub fn export(alloc: Global, texts: &[&[u8]]) -> Result<String, RunFault>
     ensures ok { IfOk result (λ text. IsExport (map (λ t. t.now) texts.now) (string_bytes text)) }
-    ensures err { IfErr result (Stops (map (λ t. t.now) texts.now)) }
+    ensures err { IfErr result (StopsTexts (map (λ t. t.now) texts.now)) }
 {
     match Loaded::open(alloc, texts) {
         Ok(table) => table.export(alloc),
@@ -58,7 +58,7 @@ pub fn query(alloc: Global, query_text: &[u8], texts: &[&[u8]]) -> Result<String
 /// Whether the files of these texts can be loaded into one table, or the first fault that stands in the way.
 pub fn validate(alloc: Global, texts: &[&[u8]]) -> Result<(), RunFault>
     ensures ok { OnOk result (AreLoadable (map (λ t. t.now) texts.now)) }
-    ensures err { IfErr result (Stops (map (λ t. t.now) texts.now)) }
+    ensures err { IfErr result (StopsTexts (map (λ t. t.now) texts.now)) }
 {
     match Loaded::open(alloc, texts) {
         Ok(_) => Ok(()),
@@ -69,7 +69,7 @@ pub fn validate(alloc: Global, texts: &[&[u8]]) -> Result<(), RunFault>
 /// The line of a fault, as the program would report it of files whose names are their numbers, from 0. That memory ran out has
 /// one that takes none.
 pub fn line_of(alloc: Global, fault: &RunFault) -> Result<String, NoMemory>
-    ensures { IfOk result (λ text. string_bytes text ≡ fault_line fault.now) }
+    ensures { IfOk result (λ text. string_bytes text ≡ line_of_fault fault.now) }
 {
     match fault {
         RunFault::OfFile { file, fault: _ } => {

@@ -6,7 +6,7 @@ use Rattle.std.specs.List.{AllByRecursion, AllZip, flat_map}
 use Rattle.arrays.specs.Shape.{FieldShape}
 use Rattle.json_base.specs.JsonTable.{FileData}
 use Rattle.json_read.specs.JsonFile.{Reads}
-use Rattle.job.specs.Jobs.{text_of}
+use Rattle.job.specs.Jobs.{text_of_query}
 use Rattle.job.specs.declared.jobs.Command.{Command}
 use Rattle.job.specs.declared.jobs.Command.TheVariants as command
 use Rattle.job.specs.declared.jobs.Job.{Job}
@@ -17,15 +17,15 @@ use Rattle.table.specs.Cause.{difference}
 use Rattle.table.specs.History.{History}
 use Rattle.loads.specs.Plan.{planned}
 use Rattle.reports.proofs.ParseLemmas.{zip_map}
-use Rattle.reports.specs.FileBatches.{FileBatch, batches_of, table_fields, tables_of}
+use Rattle.reports.specs.FileBatches.{FileBatch, batches_with_fields, table_fields, batch_tables}
 use Rattle.query.specs.declared.fault.QueryFault.{QueryFault}
 use Rattle.table.specs.declared.refusal.Refusal.{Refusal}
 use Rattle.reports.specs.declared.run_fault.FileFault.TheVariants.{CannotRead, Json, Refused}
 use Rattle.reports.specs.declared.run_fault.RunFault.{RunFault}
 use Rattle.reports.specs.declared.run_fault.RunFault.TheVariants.{NoMemory, OfColumn, OfFile, QueryUnread, QueryRefused}
 use Rattle.embed.specs.Output.{AreLoadable, IsAnswered, IsExport, IsQueryRefused, IsSchema, IsStats, OfTable, StopsQuery}
-use Rattle.embed.specs.Refused.{IsRefused, Stops}
-use Rattle.embed.specs.Loaded.{HasAdded, added, all_batches}
+use Rattle.embed.specs.Refused.{IsBatchRefused, StopsTexts}
+use Rattle.embed.specs.Loaded.{AddsAll, added, all_batches}
 use Rattle.arrowtab.specs.Column.{IsColumn, column_text}
 use Rattle.arrowtab.specs.Explained.{Explains}
 use Rattle.arrowtab.specs.Loaded.{IsLoaded, IsStopped, added_by}
@@ -37,36 +37,36 @@ module _ (fields : List FieldShape) where
   abbrev Alike : FileBatch → Type 0
   Alike b = difference fields b.fields ≡ None
 
-  alike_each : (files : List FileData) → AllByRecursion Alike (all_batches files) → AllByRecursion (λ (bs : List FileBatch). All Alike bs) (map batches_of files)
+  alike_each : (files : List FileData) → AllByRecursion Alike (all_batches files) → AllByRecursion (λ (bs : List FileBatch). All Alike bs) (map batches_with_fields files)
   alike_each [] all = tt
   alike_each (f ∷ files) all =
-      let parts = all_split Alike (batches_of f) (all_batches files) all in
-      (all_from Alike (batches_of f) parts.0, alike_each files parts.1)
+      let parts = all_split Alike (batches_with_fields f) (all_batches files) all in
+      (all_from Alike (batches_with_fields f) parts.0, alike_each files parts.1)
 
 known_all : (bs : List FileBatch) → AllByRecursion (λ e. e.0 < 1) (added bs)
 known_all [] = tt
 known_all (b ∷ bs) = (omega arith, known_all bs)
 
-own : (bs : List FileBatch) → added_by (added bs) 0 ≡ tables_of bs
+own : (bs : List FileBatch) → added_by (added bs) 0 ≡ batch_tables bs
 own [] = refl
 own (b ∷ bs) = ap (λ l. b.rows ∷ l) (own bs)
 
-joined : (files : List FileData) → flat_map (λ (bs : List FileBatch). bs) (map batches_of files) ≡ all_batches files
+joined : (files : List FileData) → flat_map (λ (bs : List FileBatch). bs) (map batches_with_fields files) ≡ all_batches files
 joined [] = refl
-joined (f ∷ files) = ap (λ (l : List FileBatch). batches_of f ++ l) (joined files)
+joined (f ∷ files) = ap (λ (l : List FileBatch). batches_with_fields f ++ l) (joined files)
 
-added_each : (files : List FileData) (w : ℕ) → w < 1 → added_by (added (all_batches files)) w ≡ tables_of (planned (map batches_of files) 1 w)
+added_each : (files : List FileData) (w : ℕ) → w < 1 → added_by (added (all_batches files)) w ≡ batch_tables (planned (map batches_with_fields files) 1 w)
 added_each files w below =
     let first : w ≡ 0 = omega (arith, below) in
-    subst (λ n. added_by (added (all_batches files)) n ≡ tables_of (planned (map batches_of files) 1 n)) (sym first)
-    (own (all_batches files) ∙ ap tables_of (sym (planned_alone (map batches_of files) ∙ joined files)))
+    subst (λ n. added_by (added (all_batches files)) n ≡ batch_tables (planned (map batches_with_fields files) 1 n)) (sym first)
+    (own (all_batches files) ∙ ap batch_tables (sym (planned_alone (map batches_with_fields files) ∙ joined files)))
 
 -- what was added alone is what one worker loads
-loaded_alone : (files : List FileData) (fields : List FieldShape) (h : History) → HasAdded (all_batches files) fields h → IsLoaded 1 (map batches_of files) fields h
+loaded_alone : (files : List FileData) (fields : List FieldShape) (h : History) → AddsAll (all_batches files) fields h → IsLoaded 1 (map batches_with_fields files) fields h
 loaded_alone files fields h is = record {
-  alike = all_from (λ (bs : List FileBatch). All (Alike fields) bs) (map batches_of files) (alike_each fields files (by_recursion (Alike fields) (all_batches files) is.alike));
+  alike = all_from (λ (bs : List FileBatch). All (Alike fields) bs) (map batches_with_fields files) (alike_each fields files (by_recursion (Alike fields) (all_batches files) is.alike));
   known = subst (λ (g : History). All (λ e. e.0 < 1) g) (sym is.whole) (all_from (λ e. e.0 < 1) (added (all_batches files)) (known_all (all_batches files)));
-  each = λ w below. subst (λ (g : History). added_by g w ≡ tables_of (planned (map batches_of files) 1 w)) (sym is.whole) (added_each files w below);
+  each = λ w below. subst (λ (g : History). added_by g w ≡ batch_tables (planned (map batches_with_fields files) 1 w)) (sym is.whole) (added_each files w below);
   legal = is.legal;
 }
 
@@ -82,8 +82,8 @@ module _ (job : Job) (texts : List (List ℕ)) (text : List ℕ) (one : job.work
         given = subst (λ c. IsColumn c None) (sym bare) tt;
         allowed = tt;
         history = is.history;
-        loaded = subst (λ n. IsLoaded n (map batches_of files) (table_fields files) is.history) (sym one)
-            (subst (λ (fs : List FieldShape). IsLoaded 1 (map batches_of files) fs is.history) opened (loaded_alone files is.fields is.history is.holds.loaded));
+        loaded = subst (λ n. IsLoaded n (map batches_with_fields files) (table_fields files) is.history) (sym one)
+            (subst (λ (fs : List FieldShape). IsLoaded 1 (map batches_with_fields files) fs is.history) opened (loaded_alone files is.fields is.history is.holds.loaded));
         prints = subst (λ n. Prints job.command n (table_fields files) is.history text) (sym one)
             (subst (λ (fs : List FieldShape). Prints job.command 1 fs is.history text) opened (prints is.fields is.history is.is));
       }
@@ -100,36 +100,36 @@ module _ (job : Job) (texts : List (List ℕ)) (text : List ℕ) (one : job.work
   pub export_alone : job.command ≡ command.Export → IsExport texts text → Answers job (map (λ t. Some t) texts) text
   export_alone same is = answers_alone _ (λ fields h prints. subst (λ (c : Command). Prints c 1 fields h text) (sym same) prints) is
 
-  pub query_alone : (source : QuerySource) → job.command ≡ command.Query source output.Lines → IsAnswered (text_of source) texts text → Answers job (map (λ t. Some t) texts) text
+  pub query_alone : (source : QuerySource) → job.command ≡ command.Query source output.Lines → IsAnswered (text_of_query source) texts text → Answers job (map (λ t. Some t) texts) text
   query_alone source same is = answers_alone _ (λ fields h prints. subst (λ (c : Command). Prints c 1 fields h text) (sym same) (is.0, is.1, prints)) is.2
 
 -- ---- what stands against it
 
 -- a front of the files has a front of their batches
-take_mapped : (n : ℕ) (files : List FileData) → take n (map batches_of files) ≡ map batches_of (take n files)
+take_mapped : (n : ℕ) (files : List FileData) → take n (map batches_with_fields files) ≡ map batches_with_fields (take n files)
 take_mapped zero [] = refl
 take_mapped zero (f ∷ files) = refl
 take_mapped (suc n) [] = refl
-take_mapped (suc n) (f ∷ files) = ap (λ l. batches_of f ∷ l) (take_mapped n files)
+take_mapped (suc n) (f ∷ files) = ap (λ l. batches_with_fields f ∷ l) (take_mapped n files)
 
-planned_front : (file : ℕ) (files : List FileData) → planned (take file (map batches_of files)) 1 0 ≡ all_batches (take file files)
+planned_front : (file : ℕ) (files : List FileData) → planned (take file (map batches_with_fields files)) 1 0 ≡ all_batches (take file files)
 planned_front file files =
-    planned_alone (take file (map batches_of files)) ∙ ap (flat_map (λ (bs : List FileBatch). bs)) (take_mapped file files) ∙ joined (take file files)
+    planned_alone (take file (map batches_with_fields files)) ∙ ap (flat_map (λ (bs : List FileBatch). bs)) (take_mapped file files) ∙ joined (take file files)
 
-stopped_alone : (files : List FileData) (file number : ℕ) (e : Refusal) → IsRefused files file number e → IsStopped 1 (map batches_of files) (table_fields files) file number e
+stopped_alone : (files : List FileData) (file number : ℕ) (e : Refusal) → IsBatchRefused files file number e → IsStopped 1 (map batches_with_fields files) (table_fields files) file number e
 stopped_alone files file number e is =
-    let bs = take number (batches_of is.one) in
+    let bs = take number (batches_with_fields is.one) in
     let all = all_batches (take file files) ++ bs in
     let none : file % 1 ≡ 0 = omega arith in
     record {
-      batches = batches_of is.one;
+      batches = batches_with_fields is.one;
       batch = is.stopped.batch;
       history = added all;
-      in_files = slice_get-map batches_of files file ∙ ap (option_map batches_of) is.at;
+      in_files = slice_get-map batches_with_fields files file ∙ ap (option_map batches_with_fields) is.at;
       in_file = is.stopped.at;
       known = all_from (λ e. e.0 < 1) (added all) (known_all all);
-      own = subst (λ n. added_by (added all) n ≡ tables_of (planned (take file (map batches_of files)) 1 n ++ bs)) (sym none)
-          (own all ∙ ap (λ (l : List FileBatch). tables_of (l ++ bs)) (sym (planned_front file files)));
+      own = subst (λ n. added_by (added all) n ≡ batch_tables (planned (take file (map batches_with_fields files)) 1 n ++ bs)) (sym none)
+          (own all ∙ ap (λ (l : List FileBatch). batch_tables (l ++ bs)) (sym (planned_front file files)));
       others = λ w below other. absurd (other (omega (arith, below, none)));
       legal = is.stopped.legal;
       stands = is.stopped.stands;
@@ -139,7 +139,7 @@ module _ (job : Job) (texts : List (List ℕ)) (before after : List ℕ) (one : 
   inputs_read : (files : List FileData) → AllZip Reads texts files → AreRead (map (λ t. Some t) texts) files
   inputs_read files read = zip_map (λ t. Some t) (λ (input : Option (List ℕ)) (file : FileData). IfSome input (λ bytes. Reads bytes file)) texts files read
 
-  pub stops_alone : (fault : RunFault) → Stops texts fault → Explains job (map (λ t. Some t) texts) before after fault
+  pub stops_alone : (fault : RunFault) → StopsTexts texts fault → Explains job (map (λ t. Some t) texts) before after fault
   stops_alone NoMemory is = tt
   stops_alone (OfFile file CannotRead) is = absurd is
   stops_alone (OfFile file (Json f)) is = record {
@@ -154,7 +154,7 @@ module _ (job : Job) (texts : List (List ℕ)) (before after : List ℕ) (one : 
   stops_alone (QueryRefused f) is = absurd is
   stops_alone (OfColumn f) is = absurd is
 
-  refused_alone : (source : QuerySource) → column_text job ≡ None → (form : Output) → job.command ≡ command.Query source form → (fault : QueryFault) → IsQueryRefused (text_of source) texts fault → RefusesQuery job (map (λ t. Some t) texts) fault
+  refused_alone : (source : QuerySource) → column_text job ≡ None → (form : Output) → job.command ≡ command.Query source form → (fault : QueryFault) → IsQueryRefused (text_of_query source) texts fault → RefusesQuery job (map (λ t. Some t) texts) fault
   refused_alone source bare form same fault is =
       let table = is.2 in
       let files = table.holds.files in
@@ -166,13 +166,13 @@ module _ (job : Job) (texts : List (List ℕ)) (before after : List ℕ) (one : 
         given = subst (λ c. IsColumn c None) (sym bare) tt;
         allowed = tt;
         history = table.history;
-        loaded = subst (λ n. IsLoaded n (map batches_of files) (table_fields files) table.history) (sym one)
-            (subst (λ (fs : List FieldShape). IsLoaded 1 (map batches_of files) fs table.history) opened (loaded_alone files table.fields table.history table.holds.loaded));
+        loaded = subst (λ n. IsLoaded n (map batches_with_fields files) (table_fields files) table.history) (sym one)
+            (subst (λ (fs : List FieldShape). IsLoaded 1 (map batches_with_fields files) fs table.history) opened (loaded_alone files table.fields table.history table.holds.loaded));
         refused = subst (λ (fs : List FieldShape). PrintsNothing job.command fs table.history fault) opened
             (subst (λ (c : Command). PrintsNothing c table.fields table.history fault) (sym same) (is.0, is.1, table.is));
       }
 
-  pub query_stops_alone : (source : QuerySource) → column_text job ≡ None → (form : Output) → job.command ≡ command.Query source form → (fault : RunFault) → StopsQuery (text_of source) texts fault → Explains job (map (λ t. Some t) texts) before after fault
+  pub query_stops_alone : (source : QuerySource) → column_text job ≡ None → (form : Output) → job.command ≡ command.Query source form → (fault : RunFault) → StopsQuery (text_of_query source) texts fault → Explains job (map (λ t. Some t) texts) before after fault
   query_stops_alone source bare form same NoMemory is = tt
   query_stops_alone source bare form same (OfFile file fault) is = stops_alone (OfFile file fault) is
   query_stops_alone source bare form same (QueryUnread f) is = subst (λ (c : Command). FailedQuery c f.kind f.path) (sym same) is

@@ -4,8 +4,8 @@ ghost use Rattle.arrowtab.specs.Column.{column_text};
 ghost use Rattle.arrowtab.specs.Explained.{Explains};
 ghost use Rattle.arrowtab.specs.Run.{Answers};
 ghost use Rattle.embed.specs.Output.{AreLoadable, IsAnswered, IsExport, IsSchema, IsStats, StopsQuery};
-ghost use Rattle.embed.specs.Refused.{Stops};
-ghost use Rattle.job.specs.Jobs.{text_of};
+ghost use Rattle.embed.specs.Refused.{StopsTexts};
+ghost use Rattle.job.specs.Jobs.{text_of_query};
 ghost use Rattle.job.specs.declared.jobs.Command.TheVariants as command;
 ghost use Rattle.job.specs.declared.jobs.Job.{Job};
 ghost use Rattle.job.specs.declared.jobs.Output.{Output};
@@ -25,11 +25,11 @@ pub fn the_library_gives_what_one_worker_prints()
     ensures export { (job : Job) (texts : List (List ℕ)) (text : List ℕ) → job.workers ≡ 1 → column_text job ≡ None
         → job.command ≡ command.Export → IsExport texts text → Answers job (map (λ t. Some t) texts) text }
     ensures query { (job : Job) (texts : List (List ℕ)) (text : List ℕ) → job.workers ≡ 1 → column_text job ≡ None
-        → (source : QuerySource) → job.command ≡ command.Query source output.Lines → IsAnswered (text_of source) texts text
+        → (source : QuerySource) → job.command ≡ command.Query source output.Lines → IsAnswered (text_of_query source) texts text
         → Answers job (map (λ t. Some t) texts) text }
     ensures err { (job : Job) (texts : List (List ℕ)) (before after : List ℕ) → job.workers ≡ 1
-        → (fault : RunFault) → Stops texts fault → Explains job (map (λ t. Some t) texts) before after fault }
+        → (fault : RunFault) → StopsTexts texts fault → Explains job (map (λ t. Some t) texts) before after fault }
     ensures query_err { (job : Job) (texts : List (List ℕ)) (before after : List ℕ) → job.workers ≡ 1
         → (source : QuerySource) → column_text job ≡ None → (form : Output) → job.command ≡ command.Query source form
-        → (fault : RunFault) → StopsQuery (text_of source) texts fault → Explains job (map (λ t. Some t) texts) before after fault }
+        → (fault : RunFault) → StopsQuery (text_of_query source) texts fault → Explains job (map (λ t. Some t) texts) before after fault }
 {}

@@ -10,7 +10,7 @@ use Rattle.flat.specs.declared.node.Node.{Node}
 use Rattle.table.specs.Cause.{batch_cause, early_cause}
 use Rattle.table.specs.Contents.{Contents, admitted}
 use Rattle.table.specs.Stored.{stored_field, stored_fields}
-use Rattle.table.specs.Widened.{add_fault, with_field}
+use Rattle.table.specs.Widened.{add_fault, with_last_field}
 use Rattle.table.specs.declared.add_fault.AddFault.{AddFault}
 use Rattle.table.specs.declared.add_fault.AddFault.TheVariants as column
 use Rattle.table.specs.declared.refusal.Refusal.{Refusal}
@@ -32,15 +32,15 @@ pub record IsAppended (worker rows : ℕ) (nodes : List Node) (before after : Co
   pub is : after ≡ admitted before worker batch
 
 -- The nodes are one column, of this field.
-abbrev pub IsOnly : List Node → FieldShape → Type 0
-IsOnly nodes f = Names nodes (f ∷ []) []
+abbrev pub IsOneColumn : List Node → FieldShape → Type 0
+IsOneColumn nodes f = Names nodes (f ∷ []) []
 
 -- The nodes are one column, and the table has its field, as it is stored, behind the others: the rows that were there show null in it.
 pub record IsWidened (nodes : List Node) (before after : Contents) : Type 0 where
   pub field : FieldShape
-  pub only : IsOnly nodes field
+  pub only : IsOneColumn nodes field
   pub allowed : add_fault field ≡ None
-  pub is : after ≡ with_field before (stored_field field)
+  pub is : after ≡ with_last_field before (stored_field field)
 
 -- ---- why it isn't
 
@@ -56,15 +56,15 @@ StopsNew nodes (NotOneColumn columns) = ⊥
 StopsNew nodes (Column e) = ⊥
 
 -- The table doesn't take the batch. Want of memory is none of its own causes, and comes behind the early ones.
-abbrev pub IsRefusal : Contents → Batch → Refusal → Type 0
-IsRefusal t batch r =
+abbrev pub RefusesBatch : Contents → Batch → Refusal → Type 0
+RefusesBatch t batch r =
     ((r ≡ refusal.NoMemory) × (early_cause t.fields t.history batch ≡ None))
     ⊎ (batch_cause t.fields t.history batch ≡ Some r)
 
 -- The fault stands: of the nodes, or of the batch that they are.
 abbrev pub StopsAppend : ℕ → List Node → Contents → IntakeFault → Type 0
 StopsAppend rows nodes t (Flat e) = StopsColumns nodes e ⊎ (StopsTogether rows nodes e ⊎ (e ≡ flat.NoMemory))
-StopsAppend rows nodes t (Refused r) = (batch : Batch) × IsBatchOf rows nodes batch × IsRefusal t batch r
+StopsAppend rows nodes t (Refused r) = (batch : Batch) × IsBatchOf rows nodes batch × RefusesBatch t batch r
 StopsAppend rows nodes t (NotOneColumn columns) = ⊥
 StopsAppend rows nodes t (Column e) = ⊥
 
@@ -84,4 +84,4 @@ abbrev pub StopsWidening : List Node → IntakeFault → Type 0
 StopsWidening nodes (Flat e) = StopsNaming nodes e
 StopsWidening nodes (Refused r) = ⊥
 StopsWidening nodes (NotOneColumn columns) = AreOthers nodes columns
-StopsWidening nodes (Column e) = (field : FieldShape) × IsOnly nodes field × IsAddRefusal field e
+StopsWidening nodes (Column e) = (field : FieldShape) × IsOneColumn nodes field × IsAddRefusal field e

@@ -2,7 +2,7 @@
 
 ghost use Rattle.std.specs.Prelude.{◌≡◌, IfErr, IfOk, OnErr, OnOk, length};
 ghost use Rattle.arrays.specs.Shape.{field_of};
-ghost use Rattle.intake.specs.Filling.{IsAppended, IsEmptyOf, IsOnly, IsWidened, StopsAppend, StopsNaming, StopsWidening};
+ghost use Rattle.intake.specs.Filling.{IsAppended, IsEmptyOf, IsOneColumn, IsWidened, StopsAppend, StopsNaming, StopsWidening};
 
 use crate::fault::IntakeFault;
 use arrays::Field;
@@ -77,7 +77,7 @@ pub fn add_column(
 
 /// The field of the one column that nodes are.
 fn only_field(alloc: Global, nodes: &[Node<'_>]) -> Result<Field, IntakeFault>
-    ensures ok { IfOk result (λ f. IsOnly nodes.now (field_of f)) }
+    ensures ok { IfOk result (λ f. IsOneColumn nodes.now (field_of f)) }
     ensures err { IfErr result (StopsWidening nodes.now) }
 {
     match schema_of(alloc, nodes) {

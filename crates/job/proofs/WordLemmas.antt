@@ -7,7 +7,7 @@ use Rattle.clap.specs.Words.{App, HasKind, HasMatchesOf, IsAmong, Row, Text, fau
 use Rattle.clap.specs.declared.error.Error.{Error}
 use Rattle.clap.specs.declared.parser.matches.ArgMatches.{ArgMatches}
 use Rattle.clap.specs.declared.error.kind.ErrorKind.TheVariants.{OutOfMemory}
-use Rattle.job.specs.Jobs.{Asks, Finds, FindsInputTwice, FindsNone, FindsQuery, HasNoOutput, HasNoQuery, HasNoWorkers, HasTwoQueries, HasNumber, HasOwn, HasWorkers, IsFaultOf, IsNumber, IsRefusal, IsUnfound, word_of}
+use Rattle.job.specs.Jobs.{Asks, Finds, FindsInputTwice, FindsNone, FindsQuery, HasNoOutput, HasNoQuery, HasNoWorkers, HasTwoQueries, HasNumber, HasOwn, HasWorkers, IsFaultOf, IsNumber, RefusesWords, IsUnfound, word_of}
 use Rattle.job.specs.CommandLine.{arrowtab}
 use Rattle.job.specs.declared.fault.JobFault.{JobFault}
 use Rattle.job.specs.declared.fault.JobFault.TheVariants.{Line, Unread, NoQuery, TwoQueries, UnknownOutput, InputTwice, NoMemory}
@@ -58,7 +58,7 @@ among words error other (inr kind) = kind
 
 -- an error that isn't want of memory is a refusal
 pub refused : (words : List Text) (error : Error) → (takes arrowtab words ≡ true → kind_of error ≡ OutOfMemory) → HasKind (fault_of arrowtab words) error
-    → kind_of error ≢ OutOfMemory → IsRefusal words error
+    → kind_of error ≢ OutOfMemory → RefusesWords words error
 refused words error passes kinds other = record {
   refused = is_not_true (takes arrowtab words) (λ taken. other (passes taken));
   kind = among words error other kinds;

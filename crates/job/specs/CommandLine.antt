@@ -29,8 +29,8 @@ abbrev pub over_files : List ℕ → App
 over_files name = with_rule (with_rule (with_rule (new_app name) files) workers) column
 
 -- -n ROWS: 10 where it isn't given.
-abbrev pub rows : Rule
-rows = record (new_rule (codes "ROWS")) {
+abbrev pub row_limit : Rule
+row_limit = record (new_rule (codes "ROWS")) {
   short = Some 110;
   defaults = codes "10" ∷ [];
   parser = Some (parser.Unsigned 0 18446744073709551615);
@@ -38,7 +38,7 @@ rows = record (new_rule (codes "ROWS")) {
 
 -- head -n ROWS --workers N --add-column FIELD FILE..
 abbrev pub with_head : App
-with_head = with_rule (over_files (codes "head")) rows
+with_head = with_rule (over_files (codes "head")) row_limit
 
 -- --query QUERY
 abbrev pub query : Rule

@@ -77,28 +77,28 @@ abbrev pub names_of : List (String Global) → List Text
 names_of names = map string_bytes names
 
 -- The name of the file that a command's query is in, where it is in one.
-abbrev pub query_file : Command → Option Text
-query_file Stats = None
-query_file Schema = None
-query_file Validate = None
-query_file (Head count) = None
-query_file Export = None
-query_file (Query (query.Text text) output) = None
-query_file (Query (query.File name) output) = Some (string_bytes name)
+abbrev pub file_of_query : Command → Option Text
+file_of_query Stats = None
+file_of_query Schema = None
+file_of_query Validate = None
+file_of_query (Head count) = None
+file_of_query Export = None
+file_of_query (Query (query.Text text) output) = None
+file_of_query (Query (query.File name) output) = Some (string_bytes name)
 
 -- The text of a query, which nothing is known of while it is in a file: none of its bytes is here.
-abbrev pub text_of : QuerySource → Text
-text_of (query.Text text) = text.items
-text_of (query.File name) = []
+abbrev pub text_of_query : QuerySource → Text
+text_of_query (query.Text text) = text.items
+text_of_query (query.File name) = []
 
 -- The command with this text for its query, where it asks one.
-abbrev pub with_text : Vec ℕ Global → Command → Command
-with_text text Stats = Stats
-with_text text Schema = Schema
-with_text text Validate = Validate
-with_text text (Head count) = Head count
-with_text text Export = Export
-with_text text (Query source output) = Query (query.Text text) output
+abbrev pub with_query_text : Vec ℕ Global → Command → Command
+with_query_text text Stats = Stats
+with_query_text text Schema = Schema
+with_query_text text Validate = Validate
+with_query_text text (Head count) = Head count
+with_query_text text Export = Export
+with_query_text text (Query source output) = Query (query.Text text) output
 
 -- The name `-` is standard input's. (POSIX.1-2017, Base Definitions, 12.2, Guideline 13)
 abbrev pub is_standard_input : Text → Bool
@@ -111,7 +111,7 @@ with_first (Some name) names = name ∷ names
 
 -- How many of the files that are read for a job, its query's and its table's, are standard input.
 abbrev pub inputs_of : Job → ℕ
-inputs_of job = count_by is_standard_input (with_first (query_file job.command) (names_of job.names.items))
+inputs_of job = count_by is_standard_input (with_first (file_of_query job.command) (names_of job.names.items))
 
 -- The number of workers is the value of --workers.
 abbrev pub HasWorkers : List Row → ℕ → Type 0
@@ -139,7 +139,7 @@ pub record IsReady (job : Job) : Type 0 where
   pub once : inputs_of job ≤ 1
 
 -- `clap` doesn't take the words, and the error is of a kind that they give.
-pub record IsRefusal (words : List Text) (error : Error) : Type 0 where
+pub record RefusesWords (words : List Text) (error : Error) : Type 0 where
   pub refused : takes arrowtab words ≡ false
   pub kind : IsAmong (kind_of error) (fault_of arrowtab words)
   pub of_words : kind_of error ≢ OutOfMemory
@@ -158,7 +158,7 @@ FindsInputTwice found = (job : Job) × Finds found job × (1 < inputs_of job)
 
 -- Why the words ask for no job. Memory may run out at any words.
 abbrev pub IsFaultOf : List Text → JobFault → Type 0
-IsFaultOf words (Line error) = IsRefusal words error
+IsFaultOf words (Line error) = RefusesWords words error
 IsFaultOf words Unread = (fault_of arrowtab words ≡ []) × FindsNone (subcommand_of arrowtab words)
 IsFaultOf words NoQuery = (fault_of arrowtab words ≡ []) × FindsQuery (subcommand_of arrowtab words) HasNoQuery
 IsFaultOf words TwoQueries = (fault_of arrowtab words ≡ []) × FindsQuery (subcommand_of arrowtab words) HasTwoQueries

@@ -1,7 +1,7 @@
 //! The commands of the program, as `clap` reads them.
 ghost use Rattle.std.specs.Prelude.{◌≡◌, IfOk, false};
 ghost use Rattle.clap.specs.Words.{app_of, rule_of};
-ghost use Rattle.job.specs.CommandLine.{alone, arrowtab, column, files, output, over_files, query, query_file, rows, with_command, with_head, with_query, workers};
+ghost use Rattle.job.specs.CommandLine.{alone, arrowtab, column, files, output, over_files, query, query_file, row_limit, with_command, with_head, with_query, workers};
 ghost use Rattle.clap.specs.declared.builder.command.Command.TheViews.{out-Command};
 
 use clap::{Arg, Command, value_parser};
@@ -217,7 +217,7 @@ fn query_file<'a>(alloc: Global) -> Arg<'a>
 
 /// `-n ROWS`
 fn rows<'a>(alloc: Global) -> Arg<'a>
-    ensures rule { rule_of result ≡ rows }
+    ensures rule { rule_of result ≡ row_limit }
     ensures local { result.global ≡ false }
 {
     let rows = Arg::new(alloc, "ROWS");

@@ -1,6 +1,6 @@
 //! What the command line requests of the program.
 ghost use Rattle.std.specs.Prelude.{◌≡◌, ◌↔◌, ◌<◌, IsTrue, count_by, map, option_map};
-ghost use Rattle.job.specs.Jobs.{inputs_of, is_standard_input, names_of, query_file, text_of, with_text};
+ghost use Rattle.job.specs.Jobs.{inputs_of, is_standard_input, names_of, file_of_query, text_of_query, with_query_text};
 
 /// A command of the program.
 #[derive(Debug, Drop, PartialEq, Eq)]
@@ -54,7 +54,7 @@ pub struct Job {
 impl QuerySource {
     /// The text of a query that is here; nothing of one in a file.
     pub fn text(&self) -> &[u8]
-        ensures { result.now ≡ text_of self.now }
+        ensures { result.now ≡ text_of_query self.now }
     {
         match self {
             QuerySource::Text(text) => text,
@@ -66,7 +66,7 @@ impl QuerySource {
 impl Command {
     /// The same command with this text for its query, where it asks one.
     fn with_text(self, text: Vec<u8>) -> Command
-        ensures { result ≡ with_text text self }
+        ensures { result ≡ with_query_text text self }
     {
         match self {
             Command::Query { query: _, output } => Command::Query {
@@ -81,7 +81,7 @@ impl Command {
 impl Job {
     /// The name of the file that the job's query is in, where it is in one.
     pub fn query_file(&self) -> Option<&str>
-        ensures { option_map (λ name. name.now) result ≡ query_file self.now.command }
+        ensures { option_map (λ name. name.now) result ≡ file_of_query self.now.command }
     {
         match &self.command {
             Command::Query {
@@ -94,7 +94,7 @@ impl Job {
 
     /// The same job with this text for its query, where it asks one.
     pub fn with_query(self, text: Vec<u8>) -> Job
-        ensures { result ≡ record self { command = with_text text self.command } }
+        ensures { result ≡ record self { command = with_query_text text self.command } }
     {
         let Job {
             command,

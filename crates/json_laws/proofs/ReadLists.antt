@@ -18,7 +18,7 @@ use Rattle.arrays.specs.Typed.{IsItemOf}
 use Rattle.arrays.proofs.ListArrays.{read_lists}
 use Rattle.arrays.proofs.ListLemmas.{list_of-items_of}
 use Rattle.serde_json.specs.Data.{Data}
-use Rattle.json_read.specs.JsonList.{ReadsList, ReadsLists, are_enough, list_slot, lists_fault, offset_bytes}
+use Rattle.json_read.specs.JsonList.{IsListColumn, ReadsLists, are_enough, list_slot, lists_fault, offset_bytes}
 use Rattle.json_read.proofs.JsonLists.{lists_fault-is}
 use Rattle.json_print.specs.ColumnData.{each, item_length, list_column, offsets_data, valid_data}
 use Rattle.json_print.proofs.Columns.{list_size, list_sizes}
@@ -98,7 +98,7 @@ enough n m is = grind (arith, nat_tests)
 
 pub list_column_read : (Reads : ℕ → Data → List Item → Type 0) (w : OffsetWidth) (k : Kind) (child : Data) (name : List ℕ) (items : List Item) → length items < 2 ^ 31 → length (inner_items items) < 2 ^ 31
     → AllByRecursion (IsItemOf (kind.lists w k)) items → same_kind k kind.dict ≡ false → depth k < 8 → Reads (length (inner_items items)) child (inner_items items)
-    → ReadsList Reads w k (length items) (list_column w child name items) items
+    → IsListColumn Reads w k (length items) (list_column w child name items) items
 list_column_read Reads w k child name items few short h other shallow inner =
     let small : sum_by item_length items < 2 ^ 31 = omega (arith, list_sizes w k items h, short) in
     record {

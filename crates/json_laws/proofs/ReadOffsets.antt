@@ -21,7 +21,7 @@ use Rattle.serde_json.specs.Events.{items_len}
 use Rattle.serde_json.specs.Find.{get_item}
 use Rattle.json_base.specs.JsonNumber.{integer_of}
 use Rattle.json_base.specs.JsonMember.{ReadsEach}
-use Rattle.json_read.specs.JsonList.{Spells, offset_bytes}
+use Rattle.json_read.specs.JsonList.{SpellsOffset, offset_bytes}
 use Rattle.json_print.specs.ColumnData.{item_length, offset_data, offsets_data}
 use Rattle.json_laws.proofs.ReadNumbers.{number_read}
 
@@ -44,20 +44,20 @@ in_range : (w : OffsetWidth) (n : ℕ) → n < 2 ^ 31 → IsOfType (offset_type 
 in_range Narrow n small = omega (arith, ints)
 in_range Wide n small = omega (arith, ints)
 
-reported : (w : OffsetWidth) (start : ℕ) (d : Data) (z : ℤ) → start < 2 ^ 31 → Some (offset_data w start) ≡ Some d → Some (pos start) ≡ Some z → Spells w d z
+reported : (w : OffsetWidth) (start : ℕ) (d : Data) (z : ℤ) → start < 2 ^ 31 → Some (offset_data w start) ≡ Some d → Some (pos start) ≡ Some z → SpellsOffset w d z
 reported w start d z small at is =
     let read = number_read (offset_type w) (pos start) (in_range w start small) in
     let same : offset_data w start ≡ d = cc in
     sym (ap (integer_of (offset_type w)) same) ∙ read ∙ is
 
 offset_read : (w : OffsetWidth) (start : ℕ) (items : List Item) → start + sum_by item_length items < 2 ^ 31 → (i : ℕ) (d : Data) (z : ℤ) → get_item i (offsets_data w start items) ≡ Some d
-    → slice_get (starts start items) i ≡ Some z → Spells w d z
+    → slice_get (starts start items) i ≡ Some z → SpellsOffset w d z
 offset_read w start [] small zero d z at is = reported w start d z (omega (arith, small)) at is
 offset_read w start [] small (suc i) d z at is = absurd cc
 offset_read w start (x ∷ xs) small zero d z at is = reported w start d z (omega (arith, small)) at is
 offset_read w start (x ∷ xs) small (suc i) d z at is = offset_read w (start + item_length x) xs (omega (arith, small, sum_by-cons item_length x xs)) i d z at is
 
-pub offsets_read : (w : OffsetWidth) (items : List Item) → sum_by item_length items < 2 ^ 31 → ReadsEach (Spells w) (offsets_data w 0 items) (starts 0 items)
+pub offsets_read : (w : OffsetWidth) (items : List Item) → sum_by item_length items < 2 ^ 31 → ReadsEach (SpellsOffset w) (offsets_data w 0 items) (starts 0 items)
 offsets_read w items small = record { len = length-starts 0 items ∙ sym (length-offsets w 0 items); each = offset_read w 0 items (omega (arith, small)) }
 
 -- ---- their bytes

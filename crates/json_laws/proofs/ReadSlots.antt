@@ -7,7 +7,7 @@ use Rattle.arrays.specs.Item.{Item, is_null}
 use Rattle.serde_json.specs.Data.{Data}
 use Rattle.serde_json.specs.Events.{items_len}
 use Rattle.serde_json.specs.Find.{get_item}
-use Rattle.json_read.specs.JsonColumn.{ReadsPlain, ReadsSlots, Spelling, is_full, slot_of, valid_at}
+use Rattle.json_read.specs.JsonColumn.{ReadsPlain, ReadsSlots, Spelling, overflows, slot_of, flagged_at}
 use Rattle.json_print.specs.ColumnData.{each, plain_column, valid_data}
 use Rattle.json_laws.proofs.ReadNumbers.{count_read, flag_read}
 
@@ -23,7 +23,7 @@ each_at value (x ∷ xs) zero = refl
 each_at value (x ∷ xs) (suc i) = each_at value xs i
 
 -- The flags say which slots hold an item.
-pub valid_read : (items : List Item) (i : ℕ) → valid_at (Some (each valid_data items)) i ≡ option_map (λ x. not (is_null x)) (slice_get items i)
+pub valid_read : (items : List Item) (i : ℕ) → flagged_at (Some (each valid_data items)) i ≡ option_map (λ x. not (is_null x)) (slice_get items i)
 valid_read [] i = refl
 valid_read (x ∷ xs) zero = flag_read (not (is_null x))
 valid_read (x ∷ xs) (suc i) = valid_read xs i
@@ -54,11 +54,11 @@ slots_spelled s value items h = record {
   each = λ i within.
       slots_read s value items i within h
       ∙ ap (λ o. slot_of s o (option_map value (slice_get items i))) (sym (valid_read items i))
-      ∙ ap (slot_of s (valid_at (Some (each valid_data items)) i)) (sym (each_at value items i));
+      ∙ ap (slot_of s (flagged_at (Some (each valid_data items)) i)) (sym (each_at value items i));
 }
 
 -- A column with a value for each slot.
-pub plain_read : (s : Spelling) (value : Item → Data) (name : List ℕ) (items : List Item) → length items < 2 ^ 31 → AllByRecursion (IsSpelled s value) items → is_full s items ≡ false
+pub plain_read : (s : Spelling) (value : Item → Data) (name : List ℕ) (items : List Item) → length items < 2 ^ 31 → AllByRecursion (IsSpelled s value) items → overflows s items ≡ false
     → ReadsPlain s (length items) (plain_column value name items) items
 plain_read s value name items few h fits = record {
   flags = Some (each valid_data items);

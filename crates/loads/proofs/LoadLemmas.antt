@@ -16,8 +16,8 @@ use Rattle.arrays.specs.First.{first}
 use Rattle.arrays.specs.Shape.{FieldShape}
 use mathlib.Core.List.{IsPrefix}
 use Rattle.histories.proofs.PrefixLemmas.{prefix_length, prefix_trans}
-use Rattle.shared.specs.Hand.{Hand, HasAdded, HasSeen, IsKept, IsLeft, calls_of_hand, rows_of_hand}
-use Rattle.shared.specs.Known.{Begins, IsLegalKnown, Known}
+use Rattle.shared.specs.Hand.{Hand, HasAdded, HasSeen, HasAddedNothing, IsLeft, calls_of_hand, rows_of_hand}
+use Rattle.shared.specs.Known.{IsBeginning, IsLegalKnown, Known}
 use Rattle.shared.specs.Left.{Left}
 use Rattle.shared.proofs.SeenLemmas.{added_raised}
 use Rattle.shared.proofs.KnownLemmas.{begins_self, begins_trans, last_typed, wide_again}
@@ -27,7 +27,7 @@ use Rattle.table.specs.Widened.{widened}
 use Rattle.table.proofs.WidenedLemmas.{widened-again, widened-append}
 use Rattle.table.specs.declared.refusal.Refusal.{Refusal}
 use Rattle.table.specs.declared.refusal.Refusal.TheVariants.{SchemaDiffers}
-use Rattle.loads.specs.Loaded.{HasLast, IsIdle, IsNewest, IsStopped, Loaded, StandsFor, batches_of, pairs_of}
+use Rattle.loads.specs.Loaded.{HasLast, IsIdle, IsNewest, IsStoppedAt, Loaded, StandsFor, batches_of_files, pairs_of}
 use Rattle.loads.specs.Plan.{planned}
 
 -- ---- answers
@@ -71,7 +71,7 @@ pair_wide old new b is =
 pub idle_self : (h : Hand) → IsLegalKnown h.seen → widened (length h.seen.fields) h.mine ≡ h.mine → IsIdle h h
 idle_self h legal wide = record { number = refl; calls = refl; rows = refl; mine = sym wide; columns = refl; begun = begins_self h.seen legal }
 
-pub idle_seen : (old new : Hand) → IsKept old new → HasSeen old new → IsIdle old new
+pub idle_seen : (old new : Hand) → HasAddedNothing old new → HasSeen old new → IsIdle old new
 idle_seen old new kept is = record { number = is.number; calls = kept.calls; rows = kept.rows; mine = is.mine; columns = is.columns; begun = is.begun }
 
 idle_then : (old mid new : Hand) → IsIdle old mid → IsIdle mid new → IsIdle old new
@@ -137,7 +137,7 @@ loaded_left [] old mid new o is left = record {
   rows = ap (λ (h : History). length (rows h)) left.mine ∙ is.rows;
   mine = left.mine ∙ is.mine ∙ ap (λ (k : Known). widened (length k.fields) old.mine) (sym left.seen);
   columns = left.columns ∙ is.columns;
-  begun = subst (λ (k : Known). Begins old.seen k) (sym left.seen) is.begun;
+  begun = subst (λ (k : Known). IsBeginning old.seen k) (sym left.seen) is.begun;
 }
 loaded_left (b ∷ bs) old mid new o is left = (is.0, is.1, loaded_left bs is.0 mid new o is.2 left)
 
@@ -176,7 +176,7 @@ pub record HasLoaded (bs : List Batch) (old new : Hand) : Type 0 where
   pub rows : rows_of_hand new ≡ rows_of_hand old + sum_by (λ b. b.rows) bs
   pub mine : new.mine ≡ widened (length new.seen.fields) (old.mine ++ pairs_of old.number bs)
   pub columns : new.columns ≡ old.columns
-  pub begun : Begins old.seen new.seen
+  pub begun : IsBeginning old.seen new.seen
   pub alike : All (IsAlike old.seen new.seen) bs
 
 has_loaded_one : (b : Batch) (old new : Hand) → HasAdded b old new → HasLoaded (b ∷ []) old new
@@ -263,7 +263,7 @@ pub mapped_length : {A B : Type 0} (v : A → B) (xs : List A) → length (map v
 mapped_length v [] = refl
 mapped_length v (x ∷ xs) = ap (λ (n : ℕ). suc n) (mapped_length v xs)
 
-pub batches_at : (files : List File) (n : ℕ) (f : File) (bs : List Batch) → n < length files → f ≡ get_or files n f → bs ≡ f.batches → get_or (batches_of files) n [] ≡ bs
+pub batches_at : (files : List File) (n : ℕ) (f : File) (bs : List Batch) → n < length files → f ≡ get_or files n f → bs ≡ f.batches → get_or (batches_of_files files) n [] ≡ bs
 batches_at files n f bs below is same = at_any (λ (x : File). x.batches) files n f [] below ∙ ap (λ (x : File). x.batches) (sym is) ∙ sym same
 
 pub there : {A : Type 0} (xs : List A) (n : ℕ) → n < length xs → (x : A) × (slice_get xs n ≡ Some x)
@@ -366,7 +366,7 @@ loaded_stopped files workers place n k bs old mid new is left one two =
     (loaded_then (planned (take n files) workers place) (take k bs) old mid new left one two)
 
 pub is_stopped : (files : List (List Batch)) (workers place n k : ℕ) (bs : List Batch) (seen : Known) (e : Refusal) → n < length files → n % workers ≡ place
-    → get_or files n [] ≡ bs → k < length bs → ((b : Batch) → slice_get bs k ≡ Some b → StandsFor seen b e) → IsStopped files workers place seen (n, k, e)
+    → get_or files n [] ≡ bs → k < length bs → ((b : Batch) → slice_get bs k ≡ Some b → StandsFor seen b e) → IsStoppedAt files workers place seen (n, k, e)
 is_stopped files workers place n k bs seen e below own is inside stands =
     let at = there bs k inside in record {
       file = below;

@@ -7,7 +7,7 @@ use Rattle.std.proofs.lemmas.List.Elements.{All-push, filter_map-append}
 use Rattle.shared.specs.Known.{Known}
 use Rattle.shared.specs.Left.{Left}
 use Rattle.loads.specs.Loaded.{Stop}
-use Rattle.loads.specs.Report.{IsLeastStop, IsWantOfMemory, last_receipts}
+use Rattle.loads.specs.Report.{IsLeastStopOf, IsWantOfMemory, last_receipts}
 
 -- ---- the least stop
 
@@ -16,7 +16,7 @@ any_push P xs y any =
     (any.0, any.1, omega (arith, any.2, length-append xs (y ∷ [])), get_or_append_left xs (y ∷ []) any.1 any.0 any.2 ∙ any.3, any.4)
 
 -- a worker that wasn't stopped changes nothing
-unstopped : (least : Option Stop) (outcomes : List Left) (o : Left) → o.stop ≡ None → IsLeastStop least outcomes → IsLeastStop least (outcomes ++ o ∷ [])
+unstopped : (least : Option Stop) (outcomes : List Left) (o : Left) → o.stop ≡ None → IsLeastStopOf least outcomes → IsLeastStopOf least (outcomes ++ o ∷ [])
 unstopped None outcomes o none is = All-push (λ (x : Left). IfSome x.stop IsWantOfMemory) outcomes o is (subst (λ p. IfSome p IsWantOfMemory) (sym none) tt)
 unstopped (Some stop) outcomes o none is = record {
   known = is.known;
@@ -26,12 +26,12 @@ unstopped (Some stop) outcomes o none is = record {
 }
 
 pub least_more : (least next : Option Stop) (outcomes : List Left) (i : ℕ) (o : Left) → i < length outcomes → next ≡ least
-    → IsLeastStop least (take i outcomes ++ get_or outcomes i o ∷ []) → IsLeastStop next (take (i + 1) outcomes)
+    → IsLeastStopOf least (take i outcomes ++ get_or outcomes i o ∷ []) → IsLeastStopOf next (take (i + 1) outcomes)
 least_more least next outcomes i o below same is =
-    subst (λ p. IsLeastStop p (take (i + 1) outcomes)) (sym same) (subst (IsLeastStop least) (sym (take_more outcomes i o below)) is)
+    subst (λ p. IsLeastStopOf p (take (i + 1) outcomes)) (sym same) (subst (IsLeastStopOf least) (sym (take_more outcomes i o below)) is)
 
 pub least_same : (least next : Option Stop) (outcomes : List Left) (i : ℕ) (o : Left) → i < length outcomes → next ≡ least
-    → (get_or outcomes i o).stop ≡ None → IsLeastStop least (take i outcomes) → IsLeastStop next (take (i + 1) outcomes)
+    → (get_or outcomes i o).stop ≡ None → IsLeastStopOf least (take i outcomes) → IsLeastStopOf next (take (i + 1) outcomes)
 least_same least next outcomes i o below same none is = least_more least next outcomes i o below same (unstopped least (take i outcomes) (get_or outcomes i o) none is)
 
 -- ---- the last receipts

@@ -10,14 +10,14 @@ use Rattle.shared.specs.Known.{Known}
 use Rattle.shared.specs.Left.{Left}
 use Rattle.table.specs.History.{History}
 use Rattle.loads.proofs.LoadLemmas.{loaded_left}
-use Rattle.loads.specs.Loaded.{AllLoaded, AreRun, HasLast, IsLoadedBy, IsNewest, IsRun, IsStopped, Loaded, before_stop, outcome_of}
-use Rattle.loads.specs.Report.{AllFinished, AreNewest, last_receipts, seen_of}
+use Rattle.loads.specs.Loaded.{AllLoaded, AreRun, HasLast, IsLoadedBy, IsNewest, IsRun, IsStoppedAt, Loaded, before_stop, outcome_of}
+use Rattle.loads.specs.Report.{AllFinished, AreNewest, last_receipts, seen_by_worker}
 
 -- what is left with it afterwards doesn't count
 pub run_left : (files : List (List Batch)) (workers place : ℕ) (old mid new : Hand) (o : Left) (p : Option Left) → IsRun files workers place old mid o → IsLeft p mid new
     → IsRun files workers place old new o
 run_left files workers place old mid new o p is left = record {
-  stopped = subst (λ (k : Known). IfSome o.stop (IsStopped files workers place k)) (sym left.seen) is.stopped;
+  stopped = subst (λ (k : Known). IfSome o.stop (IsStoppedAt files workers place k)) (sym left.seen) is.stopped;
   loaded = loaded_left (before_stop files workers place o.stop) old mid new p is.loaded left;
   last = is.last ∙ ap (λ (h : History). nat_lt (calls_of_hand old) (length h)) (sym left.mine);
   newest = λ none. subst (λ (k : Known). IfSome o.last (λ r. r ≡ k)) (sym left.seen) (is.newest none);
@@ -107,7 +107,7 @@ same_at [] i c d below = absurd (omega (arith, below))
 same_at (x ∷ xs) zero c d below = refl
 same_at (x ∷ xs) (suc i) c d below = same_at xs i c d (omega (arith, below))
 
-newest_at : (o : Left) (old new new' old' : Hand) → new' ≡ new → HasLast (calls_of_hand old) new' o.last → IsNewest new' o.last → o.last ≡ seen_of (old, new)
+newest_at : (o : Left) (old new new' old' : Hand) → new' ≡ new → HasLast (calls_of_hand old) new' o.last → IsNewest new' o.last → o.last ≡ seen_by_worker (old, new)
 newest_at o old new new' old' same last newest =
     newest_one (nat_lt (calls_of_hand old) (calls_of_hand new)) o.last new.seen
     (last ∙ ap (λ (h : Hand). nat_lt (calls_of_hand old) (calls_of_hand h)) same)
@@ -116,11 +116,11 @@ newest_at o old new new' old' same last newest =
 pub all_newest : (files : List (List Batch)) (old new : List Hand) (outcomes : List Left) → AreRun files old new outcomes → AllFinished outcomes
     → AreNewest (last_receipts outcomes) old new
 all_newest files old new outcomes are finished =
-    filter_same (λ (o : Left). o.last) seen_of outcomes (zip old new) (are.count ∙ sym (zip_length old new are.kept))
+    filter_same (λ (o : Left). o.last) seen_by_worker outcomes (zip old new) (are.count ∙ sym (zip_length old new are.kept))
     (λ i o p below.
     let inside : i < length old = omega (arith, below, are.count) in
     let run = are.each i p.0 o inside in
     let run' = are.each i p.1 o inside in
-    let at = ap seen_of (zip_at old new i p.0 p.1 are.kept) in
+    let at = ap seen_by_worker (zip_at old new i p.0 p.1 are.kept) in
     newest_at (get_or outcomes i o) (get_or old i p.0) (get_or new i p.1) (get_or new i p.0) (get_or old i p.1) (same_at new i p.0 p.1 (omega (arith, inside, are.kept))) run.last (run.newest (finished i o below))
     ∙ sym at)

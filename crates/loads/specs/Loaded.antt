@@ -4,7 +4,7 @@ use Rattle.arrays.specs.Batch.{Batch, rows_of}
 use Rattle.arrays.specs.File.{File}
 use Rattle.arrays.specs.Shape.{FieldShape}
 use Rattle.shared.specs.Hand.{Hand, HasAdded, calls_of_hand, rows_of_hand}
-use Rattle.shared.specs.Known.{Begins, Known}
+use Rattle.shared.specs.Known.{IsBeginning, Known}
 use Rattle.shared.specs.Left.{Left}
 use Rattle.table.specs.Cause.{batch_cause}
 use Rattle.table.specs.History.{History}
@@ -15,8 +15,8 @@ use Rattle.table.specs.declared.refusal.Refusal.TheVariants.{NoMemory}
 use Rattle.loads.specs.Plan.{planned}
 
 -- The batches of each file, in order.
-abbrev pub batches_of : List File → List (List Batch)
-batches_of files = map (λ f. f.batches) files
+abbrev pub batches_of_files : List File → List (List Batch)
+batches_of_files files = map (λ f. f.batches) files
 
 -- The fields of the table that files are loaded into: those of the first, as they are stored.
 abbrev pub fields_for : List File → List FieldShape
@@ -34,7 +34,7 @@ pub record IsIdle (old new : Hand) : Type 0 where
   pub rows : rows_of_hand new ≡ rows_of_hand old
   pub mine : new.mine ≡ widened (length new.seen.fields) old.mine
   pub columns : new.columns ≡ old.columns
-  pub begun : Begins old.seen new.seen
+  pub begun : IsBeginning old.seen new.seen
 
 -- It appended these batches, each by a call of its own, and nothing else: nothing stood against a batch by the fields and the
 -- history that the table had at that call, and they are behind all that it had seen before.
@@ -56,7 +56,7 @@ before_stop files workers place None = planned files workers place
 before_stop files workers place (Some s) = planned (take s.0 files) workers place ++ take s.1 (slice_index_or files s.0 [])
 
 -- The batch that stopped it is there, in one of its files, and what was reported stands for it after all that it has seen.
-pub record IsStopped (files : List (List Batch)) (workers place : ℕ) (seen : Known) (s : Stop) : Type 0 where
+pub record IsStoppedAt (files : List (List Batch)) (workers place : ℕ) (seen : Known) (s : Stop) : Type 0 where
   pub file : s.0 < length files
   pub own : s.0 % workers ≡ place
   pub batch : Batch
@@ -77,7 +77,7 @@ outcome_of h = unwrap_or h.left (record { last = None; stop = None })
 
 -- A worker came as far as the outcome tells.
 pub record IsRun (files : List (List Batch)) (workers place : ℕ) (old new : Hand) (outcome : Left) : Type 0 where
-  pub stopped : IfSome outcome.stop (IsStopped files workers place new.seen)
+  pub stopped : IfSome outcome.stop (IsStoppedAt files workers place new.seen)
   pub loaded : Loaded (before_stop files workers place outcome.stop) old new
   pub last : HasLast (calls_of_hand old) new outcome.last
   pub newest : outcome.stop ≡ None → IsNewest new outcome.last

@@ -18,24 +18,24 @@ abbrev pub IsWantOfMemory : Stop → Type 0
 IsWantOfMemory s = s.2 ≡ refusal.NoMemory
 
 -- A worker was stopped so, and not for want of memory; who was stopped in a lesser file was for want of memory.
-pub record IsLeast (stop : Stop) (outcomes : List Left) : Type 0 where
+pub record IsLeastReported (stop : Stop) (outcomes : List Left) : Type 0 where
   pub known : stop.2 ≢ refusal.NoMemory
   pub met : Any (λ o. o.stop ≡ Some stop) outcomes
   pub least : All (λ o. IfSome o.stop (λ s. IsWantOfMemory s ⊎ (stop.0 ≤ s.0))) outcomes
 
 -- The least such stop; none, where nobody was stopped but for want of memory.
-abbrev pub IsLeastStop : Option Stop → List Left → Type 0
-IsLeastStop None outcomes = All (λ o. IfSome o.stop IsWantOfMemory) outcomes
-IsLeastStop (Some stop) outcomes = IsLeast stop outcomes
+abbrev pub IsLeastStopOf : Option Stop → List Left → Type 0
+IsLeastStopOf None outcomes = All (λ o. IfSome o.stop IsWantOfMemory) outcomes
+IsLeastStopOf (Some stop) outcomes = IsLeastReported stop outcomes
 
 -- A worker was stopped, and nobody but for want of memory.
-pub record IsShort (outcomes : List Left) : Type 0 where
+pub record LacksMemory (outcomes : List Left) : Type 0 where
   pub met : Any (λ o. o.stop ≢ None) outcomes
   pub all : All (λ o. IfSome o.stop IsWantOfMemory) outcomes
 
 abbrev pub IsReportOf : LoadFault → List Left → Type 0
-IsReportOf (Refused file batch refusal) outcomes = IsLeast (file, batch, refusal) outcomes
-IsReportOf NoMemory outcomes = IsShort outcomes
+IsReportOf (Refused file batch refusal) outcomes = IsLeastReported (file, batch, refusal) outcomes
+IsReportOf NoMemory outcomes = LacksMemory outcomes
 
 -- Nobody was stopped.
 abbrev pub AllFinished : List Left → Type 0
@@ -47,17 +47,17 @@ IsReport None outcomes = AllFinished outcomes
 IsReport (Some fault) outcomes = IsReportOf fault outcomes
 
 -- What stands against loading: what the outcomes tell, or that there was no room for the answer and nothing was begun.
-abbrev pub Stands : LoadFault → List (List Batch) → List Hand → List Hand → Type 0
-Stands fault files old new = ((outcomes : List Left) × AreRun files old new outcomes × IsReportOf fault outcomes) ⊎ ((fault ≡ NoMemory) × (new ≡ old))
+abbrev pub StandsAgainstLoading : LoadFault → List (List Batch) → List Hand → List Hand → Type 0
+StandsAgainstLoading fault files old new = ((outcomes : List Left) × AreRun files old new outcomes × IsReportOf fault outcomes) ⊎ ((fault ≡ NoMemory) × (new ≡ old))
 
 -- The receipts are the last of each worker that appended, in order.
 abbrev pub AreReceipts : List Known → List (List Batch) → List Hand → List Hand → Type 0
 AreReceipts receipts files old new = (outcomes : List Left) × AreRun files old new outcomes × (receipts ≡ last_receipts outcomes)
 
 -- What a worker has seen, where it appended anything.
-abbrev pub seen_of : Hand × Hand → Option Known
-seen_of p = if nat_lt (calls_of_hand p.0) (calls_of_hand p.1) then Some p.1.seen else None
+abbrev pub seen_by_worker : Hand × Hand → Option Known
+seen_by_worker p = if nat_lt (calls_of_hand p.0) (calls_of_hand p.1) then Some p.1.seen else None
 
 -- The receipts are of all that the workers that appended have seen, in order.
 abbrev pub AreNewest : List Known → List Hand → List Hand → Type 0
-AreNewest receipts old new = receipts ≡ filter_map seen_of (zip old new)
+AreNewest receipts old new = receipts ≡ filter_map seen_by_worker (zip old new)

@@ -1,7 +1,7 @@
 //! Files that are appended by all workers.
 
 ghost use Rattle.std.specs.Prelude.{◌<◌, ℕ, length, slice_index_or};
-ghost use Rattle.loads.specs.Loaded.{IsLoadedBy, batches_of};
+ghost use Rattle.loads.specs.Loaded.{IsLoadedBy, batches_of_files};
 ghost use Rattle.shared.specs.Hand.{Hand};
 
 use crate::appending::Append;
@@ -20,11 +20,11 @@ pub(crate) struct FileLoading<'a, A> {
 }
 
 impl<'a, N: Naming, A: Append<N>> Task<Worker<N>> for FileLoading<'a, A> {
-    ghost use Rattle.loads.specs.Loaded.{IsLoadedBy, batches_of};
+    ghost use Rattle.loads.specs.Loaded.{IsLoadedBy, batches_of_files};
 
     ghost count = { λ l. l.count };
 
-    ghost does = { λ l place old new. IsLoadedBy (batches_of l.files.now) l.count place old new };
+    ghost does = { λ l place old new. IsLoadedBy (batches_of_files l.files.now) l.count place old new };
 
     fn work(&self, place: usize, worker: &mut Worker<N>) {
         work(self.table, self.files, self.count, place, worker);
@@ -39,7 +39,7 @@ pub(crate) fn append_files<N: Naming + Send + Sync, T: Threads + Sync, A: Append
     workers: &mut [Worker<N>],
 )
     ensures { (place : ℕ) (d : Hand) → place < length workers.old
-        → IsLoadedBy (batches_of files.now) (length workers.old) place (slice_index_or workers.old place d) (slice_index_or workers.new place d) }
+        → IsLoadedBy (batches_of_files files.now) (length workers.old) place (slice_index_or workers.old place d) (slice_index_or workers.new place d) }
 {
     let count = workers.len();
     let loading = FileLoading {

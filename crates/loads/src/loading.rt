@@ -1,8 +1,8 @@
 //! Files loaded by workers, side by side.
 
 ghost use Rattle.std.specs.Prelude.{◌<◌, IfErr, IfOk, OnOk, length};
-ghost use Rattle.loads.specs.Loaded.{AllLoaded, batches_of};
-ghost use Rattle.loads.specs.Report.{AreNewest, AreReceipts, Stands};
+ghost use Rattle.loads.specs.Loaded.{AllLoaded, batches_of_files};
+ghost use Rattle.loads.specs.Report.{AreNewest, AreReceipts, StandsAgainstLoading};
 
 use crate::appending::Gated;
 use crate::fault::LoadFault;
@@ -43,10 +43,10 @@ pub fn load_all<
     gate: &G,
 ) -> Result<Vec<Receipt<N>>, LoadFault>
     requires some { 0 < length workers.old }
-    ensures loaded { OnOk result (AllLoaded (batches_of files.now) workers.old workers.new) }
-    ensures receipts { IfOk result (λ v. AreReceipts v.items (batches_of files.now) workers.old workers.new) }
+    ensures loaded { OnOk result (AllLoaded (batches_of_files files.now) workers.old workers.new) }
+    ensures receipts { IfOk result (λ v. AreReceipts v.items (batches_of_files files.now) workers.old workers.new) }
     ensures newest { IfOk result (λ v. AreNewest v.items workers.old workers.new) }
-    ensures err { IfErr result (λ e. Stands e (batches_of files.now) workers.old workers.new) }
+    ensures err { IfErr result (λ e. StandsAgainstLoading e (batches_of_files files.now) workers.old workers.new) }
 {
     let count = workers.len();
     let mut receipts = Vec::with_capacity(alloc, count)?;

@@ -3,7 +3,7 @@
 ghost use Rattle.std.specs.Prelude.{◌≡◌, ◌≢◌, ◌+◌, ◌≤◌, ◌++◌, ◌∷◌, [], List, Some, None, length, map, IsTrue, IsFalse, vec_capacity, vec_len};
 ghost use Rattle.std.specs.List.{AllZip, Any};
 ghost use Rattle.loads.specs.Loaded.{outcome_of};
-ghost use Rattle.loads.specs.Report.{AllFinished, IsLeastStop, IsReport, last_receipts};
+ghost use Rattle.loads.specs.Report.{AllFinished, IsLeastStopOf, IsReport, last_receipts};
 ghost use Rattle.shared.specs.Hand.{IsLeft};
 ghost use Rattle.shared.specs.Left.{Left};
 
@@ -57,7 +57,7 @@ fn any_stopped<N: Naming>(outcomes: &[Outcome<N>]) -> bool
 
 /// The stop in the least file, of those that were not for want of memory.
 fn least_stop<N: Naming>(outcomes: &[Outcome<N>]) -> Option<(usize, usize, Refusal)>
-    ensures { IsLeastStop result outcomes.now }
+    ensures { IsLeastStopOf result outcomes.now }
 {
     let mut least = None;
     for outcome in outcomes {
@@ -73,7 +73,7 @@ fn lesser(
     least: Option<(usize, usize, Refusal)>,
     stop: (usize, usize, Refusal),
 ) -> Option<(usize, usize, Refusal)>
-    ensures { (outcomes : List Left) (o : Left) → o.stop ≡ Some stop → IsLeastStop least outcomes → IsLeastStop result (outcomes ++ o ∷ []) }
+    ensures { (outcomes : List Left) (o : Left) → o.stop ≡ Some stop → IsLeastStopOf least outcomes → IsLeastStopOf result (outcomes ++ o ∷ []) }
 {
     let (file, _, refusal) = stop;
     if let Refusal::NoMemory = refusal {

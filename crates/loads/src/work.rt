@@ -3,7 +3,7 @@
 ghost use Rattle.std.specs.Prelude.{◌≡◌, ◌<◌, ◌≤◌, IfErr, IfSome, None, OnOk, Some, length, map, slice_get, take};
 ghost use Rattle.std.specs.Arc.{arc_value};
 ghost use Rattle.arrays.specs.Batch.{Batch};
-ghost use Rattle.loads.specs.Loaded.{HasLast, IsLoadedBy, IsNewest, IsStopped, Loaded, StandsFor, batches_of, before_stop};
+ghost use Rattle.loads.specs.Loaded.{HasLast, IsLoadedBy, IsNewest, IsStoppedAt, Loaded, StandsFor, batches_of_files, before_stop};
 ghost use Rattle.shared.specs.Hand.{calls_of_hand};
 
 use crate::appending::Append;
@@ -20,7 +20,7 @@ pub(crate) fn work<N: Naming, A: Append<N>>(
     worker: &mut Worker<N>,
 )
     requires { place < count }
-    ensures { IsLoadedBy (batches_of files.now) count place worker.old worker.new }
+    ensures { IsLoadedBy (batches_of_files files.now) count place worker.old worker.new }
 {
     let first = worker.calls();
     let mut last = None;
@@ -43,8 +43,8 @@ fn add_files<N: Naming, A: Append<N>>(
     requires first { first ≤ calls_of_hand worker.old }
     requires last { HasLast first worker.old last.old }
     requires newest { IsNewest worker.old last.old }
-    ensures stopped { IfSome result (IsStopped (batches_of files.now) count place worker.new.seen) }
-    ensures loaded { Loaded (before_stop (batches_of files.now) count place result) worker.old worker.new }
+    ensures stopped { IfSome result (IsStoppedAt (batches_of_files files.now) count place worker.new.seen) }
+    ensures loaded { Loaded (before_stop (batches_of_files files.now) count place result) worker.old worker.new }
     ensures last { HasLast first worker.new last.new }
     ensures newest { result ≡ None → IsNewest worker.new last.new }
     ensures left { worker.new.left ≡ worker.old.left }

@@ -11,7 +11,7 @@ use Rattle.arrays.specs.Shape.{FieldShape}
 use Rattle.json_read.specs.JsonFile.{AreUnder, file_of}
 use Rattle.json_base.specs.JsonTable as read
 use Rattle.json_base.specs.JsonTable.{FileData, table_of}
-use Rattle.reports.specs.FileBatches.{FileBatch, batch_of, batches_of}
+use Rattle.reports.specs.FileBatches.{FileBatch, batch_of, batches_with_fields}
 
 rows_of_table : (b : Batch) → read.rows_of (table_of b) ≡ batch.rows_of b
 rows_of_table b = ap (λ (f : ℕ → List Item). map f (range_with_len 0 b.rows)) (λ j. λ i. map-map (λ (c : List Item). get_or c i null) (λ (s : Seen). s.items) b.columns j)
@@ -23,7 +23,7 @@ abbrev pub AreKept : List File → Type 0
 AreKept files = AllByRecursion (λ f. AreUnder f.fields f.batches) files
 
 abbrev pub seen_under : List FieldShape → List Batch → List FileBatch
-seen_under fields bs = batches_of (record { fields = fields; tables = map table_of bs })
+seen_under fields bs = batches_with_fields (record { fields = fields; tables = map table_of bs })
 
 pub file-listed : (fields : List FieldShape) (bs : List Batch) → AreUnder fields bs → seen_under fields bs ≡ map batch_of bs
 file-listed fields [] under = refl

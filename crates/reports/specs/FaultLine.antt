@@ -1,7 +1,7 @@
 -- The lines of faults, by what they are faults of.
 use Rattle.std.specs.Prelude.{ℕ, List}
 use Rattle.reports.specs.AddFaultText.{add_fault_text}
-use Rattle.reports.specs.Lines.{column_line, unread_line, file_line, query_line, refusal_line}
+use Rattle.reports.specs.Lines.{column_fault_line, unread_line, file_line, query_line, refusal_line}
 use Rattle.ends.specs.Line.{memory_line}
 use Rattle.json_base.specs.JsonFaultText.{fault_text}
 use Rattle.query.specs.FaultText.{query_fault_text}
@@ -30,4 +30,4 @@ line_under name NoMemory = memory_line
 line_under name (OfFile file fault) = fault_line name fault
 line_under name (QueryUnread f) = query_line (fault_text f.kind f.path)
 line_under name (QueryRefused f) = query_line (query_fault_text f)
-line_under name (OfColumn f) = column_line (column_fault_text f)
+line_under name (OfColumn f) = column_fault_line (column_fault_text f)

@@ -5,11 +5,11 @@ use Rattle.json.specs.Print.{quoted}
 use Rattle.ends.specs.Line.{line}
 use Rattle.arrays.specs.Kind.{Kind}
 use Rattle.arrays.specs.Shape.{FieldShape, is_nullable, kind_of_field, name_of}
-use Rattle.reports.specs.Shown.{kind_name, truth_text}
+use Rattle.reports.specs.Shown.{shown_kind, truth_text}
 
 -- A name, a type, and whether it may hold nulls.
 abbrev pub schema_line : List ℕ → Kind → Bool → List ℕ
-schema_line name k nullable = line (quoted name ++ codes " " ++ kind_name k ++ codes " nullable=" ++ truth_text nullable)
+schema_line name k nullable = line (quoted name ++ codes " " ++ shown_kind k ++ codes " nullable=" ++ truth_text nullable)
 
 -- A line for each field, in order.
 abbrev pub schema_lines : List FieldShape → List ℕ

@@ -11,11 +11,11 @@ pub record FileBatch : Type 0 where
   pub fields : List FieldShape
   pub rows : batch.Table
 
-abbrev pub batches_of : FileData → List FileBatch
-batches_of f = map (λ t. record { fields = f.fields; rows = rows_of t }) f.tables
+abbrev pub batches_with_fields : FileData → List FileBatch
+batches_with_fields f = map (λ t. record { fields = f.fields; rows = rows_of t }) f.tables
 
-abbrev pub tables_of : List FileBatch → List batch.Table
-tables_of batches = map (λ b. b.rows) batches
+abbrev pub batch_tables : List FileBatch → List batch.Table
+batch_tables batches = map (λ b. b.rows) batches
 
 -- The same of a batch in memory.
 abbrev pub batch_of : Batch → FileBatch

@@ -31,16 +31,16 @@ abbrev pub group_arrays : List GroupShape → List ℕ
 group_arrays groups = flat_map group_array groups
 
 -- The name of an aggregate, as sum(people).
-abbrev pub agg_name : Agg (List ℕ) → List ℕ
-agg_name Rows = codes "rows"
-agg_name (Count c) = codes "count(" ++ c ++ codes ")"
-agg_name (Sum c) = codes "sum(" ++ c ++ codes ")"
-agg_name (Least c) = codes "least(" ++ c ++ codes ")"
-agg_name (Greatest c) = codes "greatest(" ++ c ++ codes ")"
+abbrev pub agg_label : Agg (List ℕ) → List ℕ
+agg_label Rows = codes "rows"
+agg_label (Count c) = codes "count(" ++ c ++ codes ")"
+agg_label (Sum c) = codes "sum(" ++ c ++ codes ")"
+agg_label (Least c) = codes "least(" ++ c ++ codes ")"
+agg_label (Greatest c) = codes "greatest(" ++ c ++ codes ")"
 
 -- The names of the keys, as they stand, and those of the aggregates.
 abbrev pub column_names : QueryShape (List ℕ) → List (List ℕ)
-column_names q = q.by ++ map agg_name q.aggs
+column_names q = q.by ++ map agg_label q.aggs
 
 -- A record of names (RFC 4180, section 2, item 3), and one for each group.
 abbrev pub names_record : QueryShape (List ℕ) → List ℕ

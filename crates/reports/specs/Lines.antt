@@ -27,8 +27,8 @@ file_line name kind path = message (escaped_name name ++ codes ": " ++ fault_tex
 abbrev pub query_line : List ℕ → List ℕ
 query_line what = message (codes "query: " ++ what)
 
-abbrev pub column_line : List ℕ → List ℕ
-column_line what = message (codes "column: " ++ what)
+abbrev pub column_fault_line : List ℕ → List ℕ
+column_fault_line what = message (codes "column: " ++ what)
 
 abbrev pub refusal_line : List ℕ → ℕ → Refusal → List ℕ
 refusal_line name number refusal = message (escaped_name name ++ codes ": batch " ++ decimal number ++ codes ": " ++ refusal_text refusal)

@@ -25,23 +25,23 @@ abbrev pub worker_line : ℕ → ℕ → ℕ → List ℕ
 worker_line worker calls count = line (codes "worker " ++ decimal worker ++ codes " calls " ++ decimal calls ++ codes " rows " ++ decimal count)
 
 -- The name of an integer type: its sign and its width.
-abbrev pub type_name : Width → Bool → List ℕ
-type_name W8 true = codes "int8"
-type_name W8 false = codes "uint8"
-type_name W16 true = codes "int16"
-type_name W16 false = codes "uint16"
-type_name W32 true = codes "int32"
-type_name W32 false = codes "uint32"
-type_name W64 true = codes "int64"
-type_name W64 false = codes "uint64"
+abbrev pub shown_int : Width → Bool → List ℕ
+shown_int W8 true = codes "int8"
+shown_int W8 false = codes "uint8"
+shown_int W16 true = codes "int16"
+shown_int W16 false = codes "uint16"
+shown_int W32 true = codes "int32"
+shown_int W32 false = codes "uint32"
+shown_int W64 true = codes "int64"
+shown_int W64 false = codes "uint64"
 
 -- The name of a type. A column of texts with offsets of 32 bits is dictionary-encoded at the top, and plain inside lists.
-abbrev pub kind_name : Kind → List ℕ
-kind_name (kind.int t) = type_name t.bits t.signed
-kind_name kind.boolean = codes "bool"
-kind_name (kind.texts w) = text_name w
-kind_name (kind.lists w k) = list_name w ++ codes "<" ++ kind_name k ++ codes ">"
-kind_name kind.dict = codes "dictionary"
+abbrev pub shown_kind : Kind → List ℕ
+shown_kind (kind.int t) = shown_int t.bits t.signed
+shown_kind kind.boolean = codes "bool"
+shown_kind (kind.texts w) = text_name w
+shown_kind (kind.lists w k) = list_name w ++ codes "<" ++ shown_kind k ++ codes ">"
+shown_kind kind.dict = codes "dictionary"
 
 abbrev pub truth_text : Bool → List ℕ
 truth_text true = codes "true"
@@ -75,7 +75,7 @@ value_text (Some value) = cell value
 
 abbrev pub column_line : List ℕ → Kind → ℕ → ℕ → Option ℤ → Option Item → Option Item → List ℕ
 column_line name k count nulls sum least greatest = line (
-    quoted name ++ codes " " ++ kind_name k
+    quoted name ++ codes " " ++ shown_kind k
     ++ codes " rows=" ++ decimal count
     ++ codes " nulls=" ++ decimal nulls
     ++ codes " sum=" ++ sum_text sum
@@ -99,5 +99,5 @@ abbrev pub column_lines : List FieldShape → Table → List ℕ
 column_lines schema t = flat_map (λ p. field_line p.1 (column t p.0)) (enumerate_from 0 schema)
 
 -- The output for so many workers, a schema and a history.
-abbrev pub shown : ℕ → List FieldShape → History → List ℕ
-shown workers schema h = rows_line (length (rows h)) ++ worker_lines workers h ++ column_lines schema (rows h)
+abbrev pub stats_text : ℕ → List FieldShape → History → List ℕ
+stats_text workers schema h = rows_line (length (rows h)) ++ worker_lines workers h ++ column_lines schema (rows h)

@@ -6,7 +6,7 @@ ghost use Rattle.std.specs.List.{join_with_byte, list_any};
 ghost use Rattle.group.specs.Summary.{scalar_item};
 ghost use Rattle.query.specs.Resolved.{named, renamed_agg};
 ghost use Rattle.reports.specs.Csv.{csv_cell, csv_text, doubled_char, is_quoted, is_special};
-ghost use Rattle.reports.specs.GroupLines.{agg_name, column_names, names_record};
+ghost use Rattle.reports.specs.GroupLines.{agg_label, column_names, names_record};
 
 use crate::text::{push_number, push_truth};
 use colbits::NoMemory;
@@ -52,7 +52,7 @@ fn keys_of(alloc: Global, keys: &[String]) -> Result<Vec<String>, NoMemory>
 
 /// The name of an aggregate.
 fn agg_name(alloc: Global, agg: &Agg<String>) -> Result<String, AllocError>
-    ensures { IfOk result (λ name. string_bytes name ≡ agg_name (renamed_agg string_bytes agg.now)) }
+    ensures { IfOk result (λ name. string_bytes name ≡ agg_label (renamed_agg string_bytes agg.now)) }
 {
     match agg {
         Agg::Rows => String::from_str(alloc, "rows"),

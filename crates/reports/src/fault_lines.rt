@@ -1,7 +1,7 @@
 //! Faults as lines.
 ghost use Rattle.std.specs.Prelude.{◌≡◌, ◌++◌, IfOk, codes, string_bytes};
 ghost use Rattle.reports.specs.AddFaultText.{add_fault_text};
-ghost use Rattle.reports.specs.Lines.{column_line, unread_line, file_line, query_line, refusal_line};
+ghost use Rattle.reports.specs.Lines.{column_fault_line, unread_line, file_line, query_line, refusal_line};
 ghost use Rattle.reports.specs.FaultLine.{column_fault_text, fault_line, line_under};
 
 use crate::name::push_name;
@@ -89,7 +89,7 @@ fn query_line(alloc: Global, what: &str) -> Result<String, NoMemory>
 
 /// The line of a fault of the column.
 fn column_fault_line(alloc: Global, fault: &ColumnFault) -> Result<String, NoMemory>
-    ensures { IfOk result (λ text. string_bytes text ≡ column_line (column_fault_text fault.now)) }
+    ensures { IfOk result (λ text. string_bytes text ≡ column_fault_line (column_fault_text fault.now)) }
 {
     match fault {
         ColumnFault::Unread(fault) => column_line(alloc, fault_text(alloc, fault)?.as_str()),
@@ -99,7 +99,7 @@ fn column_fault_line(alloc: Global, fault: &ColumnFault) -> Result<String, NoMem
 
 /// The line that says what is wrong with the column.
 fn column_line(alloc: Global, what: &str) -> Result<String, NoMemory>
-    ensures { IfOk result (λ text. string_bytes text ≡ column_line what.now) }
+    ensures { IfOk result (λ text. string_bytes text ≡ column_fault_line what.now) }
 {
     line_behind(alloc, "arrowtab: column: ", what)
 }

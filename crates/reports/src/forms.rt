@@ -2,7 +2,7 @@
 ghost use Rattle.std.specs.Prelude.{◌≡◌, ◌++◌, ◌<◌, IfOk, OnOk, map, string_bytes};
 ghost use Rattle.std.specs.List.{join_with_byte};
 ghost use Rattle.group.specs.Scalars.{item_of_scalar};
-ghost use Rattle.answers.specs.Answers.{shape_of};
+ghost use Rattle.answers.specs.Answers.{group_shape};
 ghost use Rattle.query.specs.Resolved.{named};
 ghost use Rattle.reports.specs.Csv.{csv_cell};
 ghost use Rattle.reports.specs.GroupLines.{group_array, group_arrays, group_line, group_lines, group_record, group_records, group_text, spell};
@@ -25,7 +25,7 @@ enum Spelling {
 
 /// The line of each group of an answer.
 pub fn group_lines(alloc: Global, answer: &Answer) -> Result<String, NoMemory>
-    ensures { IfOk result (λ text. string_bytes text ≡ group_lines (map shape_of answer.now.groups.items)) }
+    ensures { IfOk result (λ text. string_bytes text ≡ group_lines (map group_shape answer.now.groups.items)) }
 {
     let mut text = String::new(alloc);
     for group in &answer.groups {
@@ -36,7 +36,7 @@ pub fn group_lines(alloc: Global, answer: &Answer) -> Result<String, NoMemory>
 
 /// An array of JSON for each group of an answer.
 pub fn group_arrays(alloc: Global, answer: &Answer) -> Result<String, NoMemory>
-    ensures { IfOk result (λ text. string_bytes text ≡ group_arrays (map shape_of answer.now.groups.items)) }
+    ensures { IfOk result (λ text. string_bytes text ≡ group_arrays (map group_shape answer.now.groups.items)) }
 {
     let mut text = String::new(alloc);
     for group in &answer.groups {
@@ -47,7 +47,7 @@ pub fn group_arrays(alloc: Global, answer: &Answer) -> Result<String, NoMemory>
 
 /// A record of CSV for each group of an answer to a query, behind one of names.
 pub fn group_records(alloc: Global, query: &QueryText, answer: &Answer) -> Result<String, NoMemory>
-    ensures { IfOk result (λ text. string_bytes text ≡ group_records (named query.now) (map shape_of answer.now.groups.items)) }
+    ensures { IfOk result (λ text. string_bytes text ≡ group_records (named query.now) (map group_shape answer.now.groups.items)) }
 {
     let mut text = String::new(alloc);
     push_names(alloc, &mut text, query)?;
@@ -59,7 +59,7 @@ pub fn group_records(alloc: Global, query: &QueryText, answer: &Answer) -> Resul
 
 /// Adds the line of a group.
 fn push_group_line(alloc: Global, text: &mut String, group: &Group) -> Result<(), NoMemory>
-    ensures { OnOk result (string_bytes text.new ≡ string_bytes text.old ++ group_line (shape_of group.now)) }
+    ensures { OnOk result (string_bytes text.new ≡ string_bytes text.old ++ group_line (group_shape group.now)) }
 {
     push_group(alloc, text, Spelling::Json, b' ', group)?;
     text.push_str("\n")?;
@@ -68,7 +68,7 @@ fn push_group_line(alloc: Global, text: &mut String, group: &Group) -> Result<()
 
 /// Adds the array of a group.
 fn push_group_array(alloc: Global, text: &mut String, group: &Group) -> Result<(), NoMemory>
-    ensures { OnOk result (string_bytes text.new ≡ string_bytes text.old ++ group_array (shape_of group.now)) }
+    ensures { OnOk result (string_bytes text.new ≡ string_bytes text.old ++ group_array (group_shape group.now)) }
 {
     text.push_str("[")?;
     push_group(alloc, text, Spelling::Json, b',', group)?;
@@ -78,7 +78,7 @@ fn push_group_array(alloc: Global, text: &mut String, group: &Group) -> Result<(
 
 /// Adds the record of a group.
 fn push_group_record(alloc: Global, text: &mut String, group: &Group) -> Result<(), NoMemory>
-    ensures { OnOk result (string_bytes text.new ≡ string_bytes text.old ++ group_record (shape_of group.now)) }
+    ensures { OnOk result (string_bytes text.new ≡ string_bytes text.old ++ group_record (group_shape group.now)) }
 {
     push_group(alloc, text, Spelling::Csv, b',', group)?;
     text.push_str("\r\n")?;
@@ -95,7 +95,7 @@ fn push_group(
 ) -> Result<(), NoMemory>
     requires { separator < 128 }
     ensures { OnOk result (string_bytes text.new
-        ≡ string_bytes text.old ++ group_text (spell spelling) separator (shape_of group.now)) }
+        ≡ string_bytes text.old ++ group_text (spell spelling) separator (group_shape group.now)) }
 {
     push_cells(alloc, text, spelling, separator, &group.keys)?;
     if !group.keys.is_empty() && !group.cells.is_empty() {

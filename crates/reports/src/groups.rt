@@ -16,7 +16,8 @@ use query::{Query, QueryFault, QueryText, resolve};
 use std::alloc::Global;
 use table::Version;
 
-/// The gate of the one who answers alone. No piece waits at it, and nobody else could have a turn.
+/// The gate of the one who answers alone. No piece waits at it, and nobody else could have a turn: a library for C links nothing that gives
+/// one, as `OpenGate` does.
 #[derive(Drop)]
 struct NobodyWaits;
 

@@ -2,7 +2,7 @@
 ghost use Rattle.arrays.specs.Item.{Item};
 ghost use Rattle.std.specs.Prelude.{List, ◌≡◌, ◌++◌, length, OnOk, IfOk, string_bytes};
 ghost use Rattle.arrays.specs.Shape.{field_of, kind_of_field};
-ghost use Rattle.reports.specs.Shown.{shown, worker_lines, column_lines, field_line};
+ghost use Rattle.reports.specs.Shown.{stats_text, worker_lines, column_lines, field_line};
 ghost use Rattle.group.specs.Summary.{AreStats};
 ghost use Rattle.table.specs.Cause.{IsLegal};
 ghost use Rattle.table.specs.History.{of, rows};
@@ -17,7 +17,7 @@ use table::Version;
 /// What `stats` prints for so many workers and a version of the table that they loaded.
 pub fn stats_text(alloc: Global, workers: u32, version: &Version) -> Result<String, NoMemory>
     ensures legal { OnOk result (IsLegal version.now.fields version.now.history) }
-    ensures output { IfOk result (λ text. string_bytes text ≡ shown workers version.now.fields version.now.history) }
+    ensures output { IfOk result (λ text. string_bytes text ≡ stats_text workers version.now.fields version.now.history) }
 {
     let mut text = String::new(alloc);
     push_rows_line(&mut text, version.rows())?;

@@ -5,7 +5,7 @@ ghost use Rattle.types.specs.Kind.{kind_of};
 ghost use Rattle.group.specs.Summary.{scalar_item};
 ghost use Rattle.json.specs.Print.{quoted};
 ghost use Rattle.reports.specs.Fields.{schema_line};
-ghost use Rattle.reports.specs.Shown.{cell, column_line, kind_name, rows_line, sum_text, truth_text, type_name, value_text, worker_line};
+ghost use Rattle.reports.specs.Shown.{cell, column_line, shown_kind, rows_line, sum_text, truth_text, shown_int, value_text, worker_line};
 
 use arrays::{DataType, IntType, Width};
 use colbits::NoMemory;
@@ -97,7 +97,7 @@ fn truth_text(truth: bool) -> &'static str
 
 /// Adds the name of a type.
 fn push_type(text: &mut String, ty: &DataType) -> Result<(), AllocError>
-    ensures { OnOk result (string_bytes text.new ≡ string_bytes text.old ++ kind_name (kind_of ty.now)) }
+    ensures { OnOk result (string_bytes text.new ≡ string_bytes text.old ++ shown_kind (kind_of ty.now)) }
 {
     match ty {
         DataType::Int(int) => text.push_str(type_name(*int)),
@@ -196,7 +196,7 @@ pub(crate) fn push_string(alloc: Global, text: &mut String, value: &str) -> Resu
 
 /// The name of an integer type.
 fn type_name(ty: IntType) -> &'static str
-    ensures { result.now ≡ type_name ty.bits ty.signed }
+    ensures { result.now ≡ shown_int ty.bits ty.signed }
 {
     match (ty.bits, ty.signed) {
         (Width::W8, true) => "int8",

@@ -33,17 +33,17 @@ kind_of_type result.Bool = kind.boolean
 kind_of_type result.Text = kind.texts Wide
 
 -- An item as a text: a number in decimal.
-abbrev pub spelled : Item → Item
-spelled item.null = item.null
-spelled (item.int z) = item.text (signed_decimal z)
-spelled (item.boolean true) = item.text (codes "true")
-spelled (item.boolean false) = item.text (codes "false")
-spelled (item.text s) = item.text s
-spelled (item.list xs) = item.null
+abbrev pub decimal_text : Item → Item
+decimal_text item.null = item.null
+decimal_text (item.int z) = item.text (signed_decimal z)
+decimal_text (item.boolean true) = item.text (codes "true")
+decimal_text (item.boolean false) = item.text (codes "false")
+decimal_text (item.text s) = item.text s
+decimal_text (item.list xs) = item.null
 
 -- The column of these items. Where one isn't of the type, as a sum past 64 bits, all are texts.
 abbrev pub result_column : ResultType → List Item → Seen
-result_column t xs = if list_all (is_of t) xs then shown (kind_of_type t) xs else shown (kind.texts Wide) (map spelled xs)
+result_column t xs = if list_all (is_of t) xs then shown (kind_of_type t) xs else shown (kind.texts Wide) (map decimal_text xs)
 
 -- ---- the batch
 
@@ -52,11 +52,11 @@ abbrev pub item_at : ℕ → GroupShape → Item
 item_at place g = slice_index_or (g.keys ++ g.cells) place item.null
 
 -- The column of each place.
-abbrev pub column_at : List ResultType → List GroupShape → ℕ → Seen
-column_at types groups place = result_column (slice_index_or types place result.Text) (map (item_at place) groups)
+abbrev pub answer_column : List ResultType → List GroupShape → ℕ → Seen
+answer_column types groups place = result_column (slice_index_or types place result.Text) (map (item_at place) groups)
 
 abbrev pub result_columns : List ResultType → List GroupShape → List Seen
-result_columns types groups = map (column_at types groups) (range_with_len 0 (length types))
+result_columns types groups = map (answer_column types groups) (range_with_len 0 (length types))
 
 abbrev pub shape_of_kind : Kind → Shape
 shape_of_kind (kind.int t) = shape.int t

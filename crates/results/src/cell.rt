@@ -5,10 +5,10 @@ ghost use Rattle.types.specs.Limits.{most_slots};
 ghost use Rattle.types.specs.Number.{IsOfType};
 ghost use Rattle.std.specs.Option.{option_copied};
 ghost use Rattle.arrays.specs.Slot.{item_of, item_of_bool, item_of_text};
-ghost use Rattle.answers.specs.Answers.{shape_of};
+ghost use Rattle.answers.specs.Answers.{group_shape};
 ghost use Rattle.group.specs.Scalars.{item_of_scalar};
 ghost use Rattle.results.specs.Cell.{only_of};
-ghost use Rattle.results.specs.Result.{is_of, item_at, spelled};
+ghost use Rattle.results.specs.Result.{is_of, item_at, decimal_text};
 
 use crate::result_type::ResultType;
 use answers::Group;
@@ -19,7 +19,7 @@ use std::alloc::Global;
 
 /// The cell of a group at a place, from its key's items on; none is null.
 pub(crate) fn cell_at(group: &Group, place: usize) -> Option<&Scalar>
-    ensures { item_of_scalar (option_map (λ s. s.now) result) ≡ item_at place (shape_of group.now) }
+    ensures { item_of_scalar (option_map (λ s. s.now) result) ≡ item_at place (group_shape group.now) }
 {
     let keys = group.keys.len();
     if place < keys {
@@ -75,7 +75,7 @@ pub(crate) fn push_spelled(
 ) -> Result<(), NoMemory>
     requires room { length texts.old.items < most_slots }
     ensures width { texts.new.width ≡ texts.old.width }
-    ensures ok { OnOk result (texts.new.items ≡ texts.old.items ++ spelled (item_of_scalar (option_map (λ s. s.now) cell.entry)) ∷ []) }
+    ensures ok { OnOk result (texts.new.items ≡ texts.old.items ++ decimal_text (item_of_scalar (option_map (λ s. s.now) cell.entry)) ∷ []) }
 {
     match cell {
         None => push(texts, None),

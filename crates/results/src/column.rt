@@ -5,9 +5,9 @@ ghost use Rattle.types.specs.Kind as kind;
 ghost use Rattle.types.specs.Limits.{most_slots};
 ghost use Rattle.types.specs.declared.offset_width.OffsetWidth.TheVariants.{Wide};
 ghost use Rattle.arrays.specs.Shown.{shown};
-ghost use Rattle.answers.specs.Answers.{shape_of};
+ghost use Rattle.answers.specs.Answers.{group_shape};
 ghost use Rattle.results.specs.Cell.{only_of};
-ghost use Rattle.results.specs.Result.{is_of, item_at, result_column, spelled};
+ghost use Rattle.results.specs.Result.{is_of, item_at, result_column, decimal_text};
 
 use crate::cell::{cell_at, is_of, number_of, push_spelled, truth_of};
 use crate::result_type::ResultType;
@@ -24,7 +24,7 @@ pub(crate) fn result_column(
     place: usize,
 ) -> Result<Array, NoMemory>
     requires { length groups.now ≤ most_slots }
-    ensures { IfOk result (λ a. a ≡ result_column ty (map (item_at place) (map shape_of groups.now))) }
+    ensures { IfOk result (λ a. a ≡ result_column ty (map (item_at place) (map group_shape groups.now))) }
 {
     if !are_of(ty, groups, place) {
         return text_column(alloc, groups, place);
@@ -38,7 +38,7 @@ pub(crate) fn result_column(
 
 /// Whether all cells at a place are of the type, or null.
 fn are_of(ty: ResultType, groups: &[Group], place: usize) -> bool
-    ensures { result ≡ list_all (λ g. is_of ty (item_at place (shape_of g))) groups.now }
+    ensures { result ≡ list_all (λ g. is_of ty (item_at place (group_shape g))) groups.now }
 {
     groups.iter().all(|group| is_of(ty, cell_at(group, place)))
 }
@@ -46,7 +46,7 @@ fn are_of(ty: ResultType, groups: &[Group], place: usize) -> bool
 /// The column of numbers of the type, null where a cell has none.
 fn int_column(alloc: Global, ty: IntType, groups: &[Group], place: usize) -> Result<Array, NoMemory>
     requires { length groups.now ≤ most_slots }
-    ensures { IfOk result (λ a. a ≡ shown (kind.int ty) (map (only_of (ResultType.Int ty)) (map (item_at place) (map shape_of groups.now)))) }
+    ensures { IfOk result (λ a. a ≡ shown (kind.int ty) (map (only_of (ResultType.Int ty)) (map (item_at place) (map group_shape groups.now)))) }
 {
     let mut numbers = IntBuilder::with_capacity(alloc, ty, groups.len())?;
     for group in groups {
@@ -58,7 +58,7 @@ fn int_column(alloc: Global, ty: IntType, groups: &[Group], place: usize) -> Res
 /// The column of truth values, null where a cell has none.
 fn bool_column(alloc: Global, groups: &[Group], place: usize) -> Result<Array, NoMemory>
     requires { length groups.now ≤ most_slots }
-    ensures { IfOk result (λ a. a ≡ shown kind.boolean (map (only_of ResultType.Bool) (map (item_at place) (map shape_of groups.now)))) }
+    ensures { IfOk result (λ a. a ≡ shown kind.boolean (map (only_of ResultType.Bool) (map (item_at place) (map group_shape groups.now)))) }
 {
     let mut truths = BoolBuilder::with_capacity(alloc, groups.len())?;
     for group in groups {
@@ -70,7 +70,7 @@ fn bool_column(alloc: Global, groups: &[Group], place: usize) -> Result<Array, N
 /// The column of texts, each cell spelled.
 fn text_column(alloc: Global, groups: &[Group], place: usize) -> Result<Array, NoMemory>
     requires { length groups.now ≤ most_slots }
-    ensures { IfOk result (λ a. a ≡ shown (kind.texts Wide) (map spelled (map (item_at place) (map shape_of groups.now)))) }
+    ensures { IfOk result (λ a. a ≡ shown (kind.texts Wide) (map decimal_text (map (item_at place) (map group_shape groups.now)))) }
 {
     let mut texts = TextBuilder::with_capacity(alloc, OffsetWidth::Wide, groups.len(), 0)?;
     for group in groups {

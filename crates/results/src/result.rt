@@ -24,7 +24,7 @@ pub fn result_batch(
     types: &[ResultType],
     answer: &Answer,
 ) -> Result<RecordBatch, NoMemory>
-    ensures { IfOk result (λ b. b ≡ result_batch (map string_bytes names.now) types.now (map answers.shape_of answer.now.groups.items)) }
+    ensures { IfOk result (λ b. b ≡ result_batch (map string_bytes names.now) types.now (map answers.group_shape answer.now.groups.items)) }
 {
     let rows = answer.groups.len();
     if rows > MOST_SLOTS {
@@ -48,7 +48,7 @@ fn result_columns(
     groups: &[Group],
 ) -> Result<Vec<Array>, NoMemory>
     requires { length groups.now ≤ most_slots }
-    ensures { IfOk result (λ columns. columns.items ≡ result_columns types.now (map answers.shape_of groups.now)) }
+    ensures { IfOk result (λ columns. columns.items ≡ result_columns types.now (map answers.group_shape groups.now)) }
 {
     let mut columns = Vec::new(alloc);
     for place in 0..types.len() {

@@ -2,10 +2,10 @@
 use Rattle.std.specs.Prelude.{◌≡◌, ℕ, List, Option, None, Some}
 use Rattle.table.specs.Contents.{Contents}
 use Rattle.reports.specs.Exported.{exported}
-use Rattle.reports.specs.Shown.{shown}
+use Rattle.reports.specs.Shown.{stats_text}
 use Rattle.reports.specs.declared.run_fault.RunFault.{RunFault}
 use Rattle.embed.specs.Answer.{PrintsAnswer, StopsAnswer}
-use Rattle.embed.specs.Loaded.{Holds}
+use Rattle.embed.specs.Loaded.{HoldsFiles}
 use Rattle.embed.specs.declared.loaded.Loaded.{Loaded}
 
 -- A table is open, of which this holds.
@@ -21,11 +21,11 @@ Became change (Some before) (Some after) = change before.state after.state
 
 -- It is the one of these texts' files.
 abbrev pub IsOpenOver : List (List ℕ) → Option Loaded → Type 0
-IsOpenOver texts table = OfOpen (λ t. Holds texts t.fields t.history) table
+IsOpenOver texts table = OfOpen (λ t. HoldsFiles texts t.fields t.history) table
 
 -- The text is what `stats` prints of it, for so many workers.
 abbrev pub IsStatsOf : ℕ → Option Loaded → List ℕ → Type 0
-IsStatsOf workers table text = OfOpen (λ t. text ≡ shown workers t.fields t.history) table
+IsStatsOf workers table text = OfOpen (λ t. text ≡ stats_text workers t.fields t.history) table
 
 -- The text is what `export` prints of it.
 abbrev pub IsExportOf : Option Loaded → List ℕ → Type 0

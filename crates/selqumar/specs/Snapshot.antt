@@ -3,7 +3,7 @@ use Rattle.std.specs.Prelude.{◌≡◌, ℕ, List, Option, None, Some, Result, 
 use Rattle.colbits.specs.declared.memory.NoMemory.{NoMemory}
 use Rattle.table.specs.Contents.{Contents}
 use Rattle.reports.specs.Exported.{exported}
-use Rattle.reports.specs.Shown.{shown}
+use Rattle.reports.specs.Shown.{stats_text}
 use Rattle.reports.specs.declared.run_fault.RunFault.{RunFault}
 use Rattle.embed.specs.Answer.{IsAnswerTable, PrintsAnswer, StopsAnswer}
 use Rattle.embed.specs.declared.loaded.Loaded.{Loaded}
@@ -21,7 +21,7 @@ IsSnapshotOf table snapshot = OfSnapshot (λ s. OfOpen (λ t. s ≡ t) table) sn
 
 -- The text is what `stats` prints of it, for so many workers.
 abbrev pub IsStatsIn : ℕ → Option Snapshot → List ℕ → Type 0
-IsStatsIn workers snapshot text = OfSnapshot (λ s. text ≡ shown workers s.fields s.history) snapshot
+IsStatsIn workers snapshot text = OfSnapshot (λ s. text ≡ stats_text workers s.fields s.history) snapshot
 
 -- The text is what `export` prints of it.
 abbrev pub IsExportIn : Option Snapshot → List ℕ → Type 0

@@ -7,6 +7,6 @@ use Rattle.embed.specs.declared.snapshot.Snapshot.{Snapshot}
 use Rattle.embed.specs.contracts.snapshot.Snapshot.{the_row}
 
 -- At the pointer there is the box of the snapshot, if there is a snapshot.
-abbrev pub owned_at : Ptr → Option Snapshot → Fml
-owned_at p None = ftrue
-owned_at p (Some snapshot) = is_boxed the_row p snapshot
+abbrev pub owns_snapshot : Ptr → Option Snapshot → Fml
+owns_snapshot p None = ftrue
+owns_snapshot p (Some snapshot) = is_boxed the_row p snapshot

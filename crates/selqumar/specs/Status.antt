@@ -4,7 +4,7 @@ use Rattle.std.specs.declared.alloc.Global.{Global}
 use Rattle.std.specs.declared.string.String.{String}
 use Rattle.reports.specs.declared.run_fault.RunFault.{RunFault}
 use Rattle.reports.specs.declared.run_fault.RunFault.TheVariants.{NoMemory}
-use Rattle.embed.specs.Output.{AreLoadable, fault_line}
+use Rattle.embed.specs.Output.{AreLoadable, line_of_fault}
 
 -- The items are at the front of the buffer, whose rest stayed as it was.
 pub record IsWritten {A : Type 0} (items old new : List A) (needed : ℕ) : Type 0 where
@@ -30,7 +30,7 @@ HasNoRoom {A} says old new needed = (items : List A) × says items × IsTooShort
 
 -- The text is the line of a fault that stands, and isn't want of memory.
 abbrev pub IsLine : (RunFault → Type 0) → List ℕ → Type 0
-IsLine stands text = (fault : RunFault) × (fault ≢ NoMemory) × stands fault × (text ≡ fault_line fault)
+IsLine stands text = (fault : RunFault) × (fault ≢ NoMemory) × stands fault × (text ≡ line_of_fault fault)
 
 -- Status 1: such a line is in the buffer.
 abbrev pub IsReported : (RunFault → Type 0) → List ℕ → List ℕ → ℕ → Type 0
@@ -58,7 +58,7 @@ abbrev pub IsGivenBy : Answered → List ℕ → List ℕ → ℕ → Type 0
 IsGivenBy answered old new needed = (text : String Global) × (answered ≡ Ok text) × IsWritten (string_bytes text) old new needed
 
 abbrev pub IsLineBy : Answered → List ℕ → Type 0
-IsLineBy answered text = (fault : RunFault) × (fault ≢ NoMemory) × (answered ≡ Err fault) × (text ≡ fault_line fault)
+IsLineBy answered text = (fault : RunFault) × (fault ≢ NoMemory) × (answered ≡ Err fault) × (text ≡ line_of_fault fault)
 
 abbrev pub IsReportedBy : Answered → List ℕ → List ℕ → ℕ → Type 0
 IsReportedBy answered old new needed = (text : List ℕ) × IsLineBy answered text × IsWritten text old new needed

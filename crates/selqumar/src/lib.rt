@@ -13,7 +13,7 @@
 
 ghost use Rattle.std.specs.Prelude.{◌≡◌, ◌≤◌, map};
 ghost use Rattle.embed.specs.Output.{IsAnswered, IsExport, IsStats, StopsQuery};
-ghost use Rattle.embed.specs.Refused.{Stops};
+ghost use Rattle.embed.specs.Refused.{StopsTexts};
 ghost use Rattle.selqumar.specs.Status.{IsGiven, IsKept, IsReported, IsShort, IsValid};
 
 mod boxed;
@@ -42,8 +42,8 @@ pub extern "C" fn selqumar_stats(
 ) -> u32
     ensures status { result ≤ 3 }
     ensures given { result ≡ 0 → IsGiven (IsStats (map (λ f. f.now) files.now)) out.old out.new needed.new }
-    ensures fault { result ≡ 1 → IsReported (Stops (map (λ f. f.now) files.now)) out.old out.new needed.new }
-    ensures short { result ≡ 2 → IsShort (IsStats (map (λ f. f.now) files.now)) (Stops (map (λ f. f.now) files.now)) out.old out.new needed.new }
+    ensures fault { result ≡ 1 → IsReported (StopsTexts (map (λ f. f.now) files.now)) out.old out.new needed.new }
+    ensures short { result ≡ 2 → IsShort (IsStats (map (λ f. f.now) files.now)) (StopsTexts (map (λ f. f.now) files.now)) out.old out.new needed.new }
     ensures memory { result ≡ 3 → IsKept out.old out.new needed.old needed.new }
 {
     put(alloc, embed::stats(alloc, files), out, needed)
@@ -59,8 +59,8 @@ pub extern "C" fn selqumar_export(
 ) -> u32
     ensures status { result ≤ 3 }
     ensures given { result ≡ 0 → IsGiven (IsExport (map (λ f. f.now) files.now)) out.old out.new needed.new }
-    ensures fault { result ≡ 1 → IsReported (Stops (map (λ f. f.now) files.now)) out.old out.new needed.new }
-    ensures short { result ≡ 2 → IsShort (IsExport (map (λ f. f.now) files.now)) (Stops (map (λ f. f.now) files.now)) out.old out.new needed.new }
+    ensures fault { result ≡ 1 → IsReported (StopsTexts (map (λ f. f.now) files.now)) out.old out.new needed.new }
+    ensures short { result ≡ 2 → IsShort (IsExport (map (λ f. f.now) files.now)) (StopsTexts (map (λ f. f.now) files.now)) out.old out.new needed.new }
     ensures memory { result ≡ 3 → IsKept out.old out.new needed.old needed.new }
 {
     put(alloc, embed::export(alloc, files), out, needed)
@@ -95,8 +95,8 @@ pub extern "C" fn selqumar_validate(
 ) -> u32
     ensures status { result ≤ 3 }
     ensures given { result ≡ 0 → IsGiven (IsValid (map (λ f. f.now) files.now)) out.old out.new needed.new }
-    ensures fault { result ≡ 1 → IsReported (Stops (map (λ f. f.now) files.now)) out.old out.new needed.new }
-    ensures short { result ≡ 2 → IsShort (IsValid (map (λ f. f.now) files.now)) (Stops (map (λ f. f.now) files.now)) out.old out.new needed.new }
+    ensures fault { result ≡ 1 → IsReported (StopsTexts (map (λ f. f.now) files.now)) out.old out.new needed.new }
+    ensures short { result ≡ 2 → IsShort (IsValid (map (λ f. f.now) files.now)) (StopsTexts (map (λ f. f.now) files.now)) out.old out.new needed.new }
     ensures memory { result ≡ 3 → IsKept out.old out.new needed.old needed.new }
 {
     put(alloc, validity(alloc, files), out, needed)

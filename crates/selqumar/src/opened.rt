@@ -1,7 +1,7 @@
 //! Calls on a table that stays open between them.
 ghost use Rattle.std.specs.Prelude.{◌≡◌, ◌≢◌, ◌≤◌, List, None, [], map, ℕ};
 ghost use Rattle.embed.specs.Output.{IsAnswered, IsExport, IsStats, StopsQuery};
-ghost use Rattle.embed.specs.Refused.{Stops};
+ghost use Rattle.embed.specs.Refused.{StopsTexts};
 ghost use Rattle.selqumar.specs.Handle.{IsAnswerOf, IsExportOf, IsOpenOver, IsStatsOf, StopsAnswerOf};
 ghost use Rattle.selqumar.specs.Status.{IsGiven, IsKept, IsReported, IsShort, IsWritten};
 
@@ -23,8 +23,8 @@ pub extern "C" fn selqumar_open(
     ensures opened { result ≡ 0 → IsOpenOver (map (λ f. f.now) files.now) handle.new.slot.table }
     ensures given { result ≡ 0 → IsWritten [] out.old out.new needed.new }
     ensures unchanged { result ≢ 0 → handle.new.slot.table ≡ handle.old.slot.table }
-    ensures fault { result ≡ 1 → IsReported (Stops (map (λ f. f.now) files.now)) out.old out.new needed.new }
-    ensures short { result ≡ 2 → IsShort (λ text. ⊥) (Stops (map (λ f. f.now) files.now)) out.old out.new needed.new }
+    ensures fault { result ≡ 1 → IsReported (StopsTexts (map (λ f. f.now) files.now)) out.old out.new needed.new }
+    ensures short { result ≡ 2 → IsShort (λ text. ⊥) (StopsTexts (map (λ f. f.now) files.now)) out.old out.new needed.new }
     ensures memory { result ≡ 3 → IsKept out.old out.new needed.old needed.new }
 {
     match Loaded::open(alloc, files) {

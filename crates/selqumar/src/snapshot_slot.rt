@@ -18,9 +18,9 @@ pub struct SnapshotSlot {
 }
 
 impl Model for SnapshotSlot {
-    ghost use Rattle.selqumar.specs.SnapshotSlot.{owned_at};
+    ghost use Rattle.selqumar.specs.SnapshotSlot.{owns_snapshot};
 
-    ghost also_owns = { λ s. owned_at s.pointer s.snapshot };
+    ghost also_owns = { λ s. owns_snapshot s.pointer s.snapshot };
 }
 
 unsafe impl Send for SnapshotSlot {}

@@ -1,6 +1,6 @@
 //! Statuses of calls, and what they leave in the caller's buffer.
 ghost use Rattle.std.specs.Prelude.{◌≡◌, ◌⊎◌, ◌≤◌, IfErr, IfOk, map, string_bytes};
-ghost use Rattle.embed.specs.Refused.{Stops};
+ghost use Rattle.embed.specs.Refused.{StopsTexts};
 ghost use Rattle.selqumar.specs.Status.{IsGivenBy, IsKept, IsReportedBy, IsShortBy, IsTooShort, IsValid, IsWritten};
 
 use embed::{RunFault, line_of, validate};
@@ -75,7 +75,7 @@ pub(crate) fn done(needed: &mut usize) -> u32
 /// An empty text, where all files can be loaded into one table.
 pub(crate) fn validity(alloc: Global, files: &[&[u8]]) -> Result<String, RunFault>
     ensures ok { IfOk result (λ text. IsValid (map (λ f. f.now) files.now) (string_bytes text)) }
-    ensures err { IfErr result (Stops (map (λ f. f.now) files.now)) }
+    ensures err { IfErr result (StopsTexts (map (λ f. f.now) files.now)) }
 {
     match validate(alloc, files) {
         Ok(()) => Ok(String::new(alloc)),

@@ -9,14 +9,14 @@ use Rattle.query.specs.QueryShape.{QueryShape}
 use Rattle.query.specs.Resolved.{resolved}
 use Rattle.query.specs.declared.fault.QueryFault.{QueryFault}
 use Rattle.query.specs.declared.fault.QueryFault.TheVariants.{NoMemory}
-use Rattle.selqumar_core.specs.Asked.{IsPlaced, IsRefused, at_row, under_fields}
+use Rattle.selqumar_core.specs.Asked.{ReadsPlaced, IsAskRefusal, at_row, under_fields}
 
 pub refused_by_fields : (bytes : List ℕ) (fields : List FieldShape) (t : Table) (query : QueryShape (List ℕ)) (f : QueryFault) → ReadsQueryText bytes query
-    → (resolved fields query ≡ Err f) ⊎ ((f ≡ NoMemory) × IsOk (resolved fields query)) → (f ≡ NoMemory → ⊥) → IsRefused bytes fields t f
+    → (resolved fields query ≡ Err f) ⊎ ((f ≡ NoMemory) × IsOk (resolved fields query)) → (f ≡ NoMemory → ⊥) → IsAskRefusal bytes fields t f
 refused_by_fields bytes fields t query f reads (inl under) some = under_fields query f reads under
 refused_by_fields bytes fields t query f reads (inr wants) some = absurd (some wants.0)
 
-pub refused_at_row : (bytes : List ℕ) (fields : List FieldShape) (t : Table) (placed : QueryShape ℕ) (f : QueryFault) → IsPlaced bytes fields placed → IsRefusal fields placed t f → (f ≡ NoMemory → ⊥)
-    → IsRefused bytes fields t f
-refused_at_row bytes fields t placed f is (inl bad) some = subst (IsRefused bytes fields t) (sym bad.2) (at_row placed bad.0 is bad.1)
+pub refused_at_row : (bytes : List ℕ) (fields : List FieldShape) (t : Table) (placed : QueryShape ℕ) (f : QueryFault) → ReadsPlaced bytes fields placed → IsRefusal fields placed t f → (f ≡ NoMemory → ⊥)
+    → IsAskRefusal bytes fields t f
+refused_at_row bytes fields t placed f is (inl bad) some = subst (IsAskRefusal bytes fields t) (sym bad.2) (at_row placed bad.0 is bad.1)
 refused_at_row bytes fields t placed f is (inr wants) some = absurd (some wants)

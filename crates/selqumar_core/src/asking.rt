@@ -3,7 +3,7 @@
 ghost use Rattle.std.specs.Prelude.{◌≡◌, IfErr, IfOk, true};
 ghost use Rattle.query.specs.Fault.{fits};
 ghost use Rattle.query.specs.QueryShape.{query_shape};
-ghost use Rattle.selqumar_core.specs.Asked.{IsAsked, IsPlaced, IsUnasked};
+ghost use Rattle.selqumar_core.specs.Asked.{IsAsked, ReadsPlaced, IsUnasked};
 ghost use Rattle.table.specs.History.{rows};
 
 use crate::fault::Fault;
@@ -46,7 +46,7 @@ pub fn ask<T: Threads + Sync>(
 
 /// The query that a text is, by the positions of the version's columns.
 fn placed(alloc: Global, version: &Version, text: &str) -> Result<Query, Fault>
-    ensures ok { IfOk result (λ q. IsPlaced text.now version.now.fields (query_shape q)) }
+    ensures ok { IfOk result (λ q. ReadsPlaced text.now version.now.fields (query_shape q)) }
     ensures fits { IfOk result (λ q. fits version.now.fields (query_shape q) ≡ true) }
     ensures err { IfErr result (IsUnasked text.now version.now.fields (rows version.now.history)) }
 {

@@ -9,7 +9,7 @@ use Rattle.shared.specs.Known.{Known}
 use Rattle.shared.proofs.KnownLemmas.{known_widened}
 use Rattle.table.specs.Contents.{Contents}
 use Rattle.table.specs.History.{History, rows}
-use Rattle.table.specs.Widened.{widened, widened_table, with_field}
+use Rattle.table.specs.Widened.{widened, widened_table, with_last_field}
 use Rattle.arrays.proofs.BatchLemmas.{length-rows_of}
 use Rattle.table.proofs.HistoryLemmas.{rows-push}
 use Rattle.table.proofs.WidenedLemmas.{length-table, length-widened, rows-widened}
@@ -63,7 +63,7 @@ shows_same count k s version is same = subst (ShowsKnown count k) (sym same) is
 
 -- the same of a table with a column more
 pub shows_widened : (count : ℕ) (first : List FieldShape) (xs ys : List Change) (s next : Contents) (f : FieldShape) → ShowsKnown count (known_after first xs) s → ys ≡ xs ++ field_added f ∷ []
-    → next ≡ with_field s f → ShowsKnown count (known_after first ys) next
+    → next ≡ with_last_field s f → ShowsKnown count (known_after first ys) next
 shows_widened count first xs ys s next f is added same = record {
   known = known_widened first xs ys s next f is.known added same;
   workers = workers_wider (length s.fields + 1) count s.history next.history is.workers (ap (λ (t : Contents). t.history) same);

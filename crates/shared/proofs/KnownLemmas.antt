@@ -7,24 +7,24 @@ use mathlib.Core.List.{IsPrefix}
 use Rattle.arrays.specs.Batch.{Batch, Table, rows_of}
 use Rattle.arrays.specs.Shape.{FieldShape}
 use Rattle.histories.proofs.PrefixLemmas.{prefix_length, prefix_self, prefix_trans}
-use Rattle.shared.specs.Changes.{Change, field_added, field_in, fields_after, fields_in, known_after, pair_added, pair_in, pairs_in}
-use Rattle.shared.specs.Known.{Begins, IsLegalKnown, Known, known_of, with_column}
+use Rattle.shared.specs.Changes.{Change, field_added, added_field, fields_after, fields_in, known_after, pair_added, pair_in, pairs_in}
+use Rattle.shared.specs.Known.{IsBeginning, IsLegalKnown, Known, known_of, with_column}
 use Rattle.table.specs.Cause.{IsLegal, IsTableOf}
 use Rattle.table.specs.Contents.{Contents, admitted}
 use Rattle.table.specs.History.{History}
-use Rattle.table.specs.Widened.{widened, widened_table, with_field}
+use Rattle.table.specs.Widened.{widened, widened_table, with_last_field}
 use Rattle.table.proofs.WidenedLemmas.{long-typed, prefix-widened, table-long, table-wide, widened-again, widened-append}
 
 -- ---- what is known after changes
 
 pub fields_front : (first : List FieldShape) (xs ys : List Change) → IsPrefix xs ys → IsPrefix (fields_after first xs) (fields_after first ys)
-fields_front first xs ys begins = (fields_in begins.0, append_assoc first (fields_in xs) (fields_in begins.0) ∙ ap (λ l. first ++ l) (sym (filter_map-append field_in xs begins.0) ∙ ap fields_in begins.1))
+fields_front first xs ys begins = (fields_in begins.0, append_assoc first (fields_in xs) (fields_in begins.0) ∙ ap (λ l. first ++ l) (sym (filter_map-append added_field xs begins.0) ∙ ap fields_in begins.1))
 
 pub pairs_front : (xs ys : List Change) → IsPrefix xs ys → IsPrefix (pairs_in xs) (pairs_in ys)
 pairs_front xs ys begins = (pairs_in begins.0, sym (filter_map-append pair_in xs begins.0) ∙ ap pairs_in begins.1)
 
 -- a front of the changes tells a beginning of what they tell
-pub known_begins : (first : List FieldShape) (xs ys : List Change) → IsPrefix xs ys → Begins (known_after first xs) (known_after first ys)
+pub known_begins : (first : List FieldShape) (xs ys : List Change) → IsPrefix xs ys → IsBeginning (known_after first xs) (known_after first ys)
 known_begins first xs ys begins =
     let fields = fields_front first xs ys begins in
     let m = length (fields_after first xs) in
@@ -45,7 +45,7 @@ pub opened_first : (first : List FieldShape) (xs : List Change) → IsPrefix fir
 opened_first first xs = (fields_in xs, refl)
 
 pub fields_same : (first : List FieldShape) (xs : List Change) (e : ℕ × Table) → fields_after first (xs ++ pair_added e ∷ []) ≡ fields_after first xs
-fields_same first xs e = ap (λ l. first ++ l) (filter_map-append field_in xs (pair_added e ∷ []) ∙ append-nil (fields_in xs))
+fields_same first xs e = ap (λ l. first ++ l) (filter_map-append added_field xs (pair_added e ∷ []) ∙ append-nil (fields_in xs))
 
 pub pairs_more : (xs : List Change) (e : ℕ × Table) → pairs_in (xs ++ pair_added e ∷ []) ≡ pairs_in xs ++ e ∷ []
 pairs_more xs e = filter_map-append pair_in xs (pair_added e ∷ [])
@@ -86,13 +86,13 @@ legal_wide k legal = long-typed k.fields k.history legal.shaped
 
 -- ---- what begins what
 
-pub begins_self : (k : Known) → IsLegalKnown k → Begins k k
+pub begins_self : (k : Known) → IsLegalKnown k → IsBeginning k k
 begins_self k legal = record {
   fields = prefix_self k.fields;
   history = subst (λ (h : History). IsPrefix h k.history) (sym (legal_wide k legal)) (prefix_self k.history);
 }
 
-pub begins_trans : (k l m : Known) → Begins k l → Begins l m → Begins k m
+pub begins_trans : (k l m : Known) → IsBeginning k l → IsBeginning l m → IsBeginning k m
 begins_trans k l m kl lm =
     let few : length l.fields ≤ length m.fields = prefix_length l.fields m.fields lm.fields in
     record {
@@ -104,8 +104,8 @@ begins_trans k l m kl lm =
     }
 
 -- what two fronts tell, of which one begins the other
-pub reported_begins : (first : List FieldShape) (xs ys : List Change) (k l : Known) → known_after first xs ≡ k → known_after first ys ≡ l → IsPrefix xs ys → Begins k l
-reported_begins first xs ys k l k_is l_is begins = subst (λ (i : Known). Begins i l) k_is (subst (λ (i : Known). Begins (known_after first xs) i) l_is (known_begins first xs ys begins))
+pub reported_begins : (first : List FieldShape) (xs ys : List Change) (k l : Known) → known_after first xs ≡ k → known_after first ys ≡ l → IsPrefix xs ys → IsBeginning k l
+reported_begins first xs ys k l k_is l_is begins = subst (λ (i : Known). IsBeginning i l) k_is (subst (λ (i : Known). IsBeginning (known_after first xs) i) l_is (known_begins first xs ys begins))
 
 -- ---- a table with a batch more
 
@@ -125,7 +125,7 @@ known_added first xs ys s next worker b ready is more same added legal =
 -- ---- a table with a column more
 
 fields_more : (first : List FieldShape) (xs : List Change) (f : FieldShape) → fields_after first (xs ++ field_added f ∷ []) ≡ fields_after first xs ++ f ∷ []
-fields_more first xs f = ap (λ l. first ++ l) (filter_map-append field_in xs (field_added f ∷ [])) ∙ sym (append_assoc first (fields_in xs) (f ∷ []))
+fields_more first xs f = ap (λ l. first ++ l) (filter_map-append added_field xs (field_added f ∷ [])) ∙ sym (append_assoc first (fields_in xs) (f ∷ []))
 
 pairs_same : (xs : List Change) (f : FieldShape) → pairs_in (xs ++ field_added f ∷ []) ≡ pairs_in xs
 pairs_same xs f = filter_map-append pair_in xs (field_added f ∷ []) ∙ append-nil (pairs_in xs)
@@ -141,7 +141,7 @@ known_wider first xs f =
     ∙ ap (λ (h : History). record { fields = wide; history = h }) (sym (widened-again (length fields) (length fields + 1) (omega arith) (pairs_in xs)))
 
 pub known_widened : (first : List FieldShape) (xs ys : List Change) (s next : Contents) (f : FieldShape) → known_after first xs ≡ known_of s → ys ≡ xs ++ field_added f ∷ []
-    → next ≡ with_field s f → known_after first ys ≡ known_of next
+    → next ≡ with_last_field s f → known_after first ys ≡ known_of next
 known_widened first xs ys s next f is more added =
     ap (known_after first) more ∙ known_wider first xs f ∙ ap (λ (k : Known). with_column k f) is ∙ ap known_of (sym added)
 

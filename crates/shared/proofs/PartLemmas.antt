@@ -11,8 +11,8 @@ use Rattle.histories.proofs.PrefixLemmas.{prefix_length}
 use Rattle.shared.proofs.HandLemmas.{count_of, some as some_of}
 use Rattle.shared.proofs.KnownLemmas.{begins_trans}
 use Rattle.shared.specs.Balance.{IsOfWorkers}
-use Rattle.shared.specs.Hand.{Hand, IsPartOf, IsWhole, calls_of_hand}
-use Rattle.shared.specs.Known.{Begins, Known}
+use Rattle.shared.specs.Hand.{Hand, IsWorkerOf, HasAllItsPairs, calls_of_hand}
+use Rattle.shared.specs.Known.{IsBeginning, Known}
 use Rattle.shared.specs.Missing.{AllThere}
 use Rattle.shared.specs.Parts.{InOrder, sum_below}
 use Rattle.table.specs.History.{History, of}
@@ -79,7 +79,7 @@ part_pushed mine h w t o =
     (order_push mine (of h w) (w, t) o)
 
 -- the same, where more fields may be known
-pub part_wider : (k l : Known) (mine : History) (w : ℕ) → Begins k l → InOrder (widened (length k.fields) mine) (of k.history w) → InOrder (widened (length l.fields) mine) (of l.history w)
+pub part_wider : (k l : Known) (mine : History) (w : ℕ) → IsBeginning k l → InOrder (widened (length k.fields) mine) (of k.history w) → InOrder (widened (length l.fields) mine) (of l.history w)
 part_wider k l mine w begun o =
     let m = length k.fields in
     let n = length l.fields in
@@ -90,7 +90,7 @@ part_wider k l mine w begun o =
     (subst (λ (h : History). InOrder h (of (widened n k.history) w)) (widened-again m n few mine)
     (subst (λ (h : History). InOrder (widened n (widened m mine)) h) (sym (of-widened n k.history w)) wide))
 
-pub part_more : (count : ℕ) (k l : Known) (w : Hand) → IsPartOf count k w → Begins k l → IsPartOf count l w
+pub part_more : (count : ℕ) (k l : Known) (w : Hand) → IsWorkerOf count k w → IsBeginning k l → IsWorkerOf count l w
 part_more count k l w is begun = record {
   below = is.below;
   begun = begins_trans w.seen k l is.begun begun;
@@ -184,10 +184,10 @@ length_cond : (b : Bool) (n : ℕ) (h : History) → length (cond b (widened n h
 length_cond true n h = length-widened n h
 length_cond false n h = refl
 
-mines_sum : (count : ℕ) (k : Known) (n : ℕ) (hands : List Hand) → All (IsPartOf count k) hands → sum_below count (λ w. length (mines n w hands)) ≡ sum_by calls_of_hand hands
+mines_sum : (count : ℕ) (k : Known) (n : ℕ) (hands : List Hand) → All (IsWorkerOf count k) hands → sum_below count (λ w. length (mines n w hands)) ≡ sum_by calls_of_hand hands
 mines_sum count k n [] all = sum_none count
 mines_sum count k n (x ∷ hands) all =
-    let rest : All (IsPartOf count k) hands = λ i d below. all (suc i) d (omega (arith, below)) in
+    let rest : All (IsWorkerOf count k) hands = λ i d below. all (suc i) d (omega (arith, below)) in
     let split : sum_by calls_of_hand (x ∷ hands) ≡ (0 + length x.mine) + sum_by calls_of_hand hands = sum_by-append calls_of_hand (x ∷ []) hands in
     omega (
       arith,
@@ -199,10 +199,10 @@ mines_sum count k n (x ∷ hands) all =
       mines_sum count k n hands rest,
     )
 
-counts_sum : (count : ℕ) (k : Known) (hands : List Hand) → All (IsPartOf count k) hands → sum_below count (λ w. count_of w hands) ≡ length hands
+counts_sum : (count : ℕ) (k : Known) (hands : List Hand) → All (IsWorkerOf count k) hands → sum_below count (λ w. count_of w hands) ≡ length hands
 counts_sum count k [] all = sum_none count
 counts_sum count k (x ∷ hands) all =
-    let rest : All (IsPartOf count k) hands = λ i d below. all (suc i) d (omega (arith, below)) in
+    let rest : All (IsWorkerOf count k) hands = λ i d below. all (suc i) d (omega (arith, below)) in
     omega (
       arith,
       sum_both count (λ w. cond (x.number == w) 1 0) (λ w. count_of w hands),
@@ -242,7 +242,7 @@ mine_at n w (x ∷ hands) (suc i) d below is one =
     other_first n w x hands (widened n (get_or hands i d).mine) (x.number == w) one (counted_at w hands i d (omega (arith, below)) is)
     (mine_at n w hands i d (omega (arith, below)) is (omega (arith, one)))
 
-first_ordered : (count : ℕ) (k : Known) (w : ℕ) (x : Hand) (hands : List Hand) → IsPartOf count k x → count_of w (x ∷ hands) ≤ 1 → InOrder (mines (length k.fields) w hands) (of k.history w)
+first_ordered : (count : ℕ) (k : Known) (w : ℕ) (x : Hand) (hands : List Hand) → IsWorkerOf count k x → count_of w (x ∷ hands) ≤ 1 → InOrder (mines (length k.fields) w hands) (of k.history w)
     → (b : Bool) → (x.number == w) ≡ b → InOrder (mines (length k.fields) w (x ∷ hands)) (of k.history w)
 first_ordered count k w x hands is one rest true test =
     let number : x.number ≡ w = grind (arith, nat_tests) in
@@ -251,7 +251,7 @@ first_ordered count k w x hands is one rest true test =
 first_ordered count k w x hands is one rest false test =
     subst (λ (l : History). InOrder l (of k.history w)) (sym (ap (λ b. cond b (widened (length k.fields) x.mine) [] ++ mines (length k.fields) w hands) test)) rest
 
-mines_ordered : (count : ℕ) (k : Known) (w : ℕ) (hands : List Hand) → All (IsPartOf count k) hands → count_of w hands ≤ 1 → InOrder (mines (length k.fields) w hands) (of k.history w)
+mines_ordered : (count : ℕ) (k : Known) (w : ℕ) (hands : List Hand) → All (IsWorkerOf count k) hands → count_of w hands ≤ 1 → InOrder (mines (length k.fields) w hands) (of k.history w)
 mines_ordered count k w [] all one = tt
 mines_ordered count k w (x ∷ hands) all one =
     first_ordered count k w x hands (all 0 x (omega arith)) one
@@ -259,8 +259,8 @@ mines_ordered count k w (x ∷ hands) all one =
     (x.number == w) refl
 
 -- all hands of so many workers, who together made all calls, have each its own part
-pub all_whole : (count : ℕ) (k : Known) (hands : List Hand) → IsOfWorkers count k.history → AllThere count hands → length hands ≤ count → All (IsPartOf count k) hands
-    → length k.history ≡ sum_by calls_of_hand hands → All (IsWhole k) hands
+pub all_whole : (count : ℕ) (k : Known) (hands : List Hand) → IsOfWorkers count k.history → AllThere count hands → length hands ≤ count → All (IsWorkerOf count k) hands
+    → length k.history ≡ sum_by calls_of_hand hands → All (HasAllItsPairs k) hands
 all_whole count k hands workers there few all sum =
     let n = length k.fields in
     let some = λ (w : ℕ) (below : w < count). some_of w hands (there w below) in

@@ -8,8 +8,8 @@ use Rattle.arrays.specs.Batch.{Batch, rows_of}
 use Rattle.arrays.specs.First.{first}
 use Rattle.arrays.specs.Shape.{FieldShape}
 use Rattle.shared.specs.Balance.{IsOfWorkers, ShowsKnown}
-use Rattle.shared.specs.Hand.{Hand, HasAdded, HasSeen, HasWidened, IsKept, IsRaised, calls_of_hand, having_added, having_counted, having_seen, rows_of_hand}
-use Rattle.shared.specs.Known.{Begins, IsLegalKnown, Known, known_of, with_column}
+use Rattle.shared.specs.Hand.{Hand, HasAdded, HasSeen, HasWidened, HasAddedNothing, IsRaised, calls_of_hand, having_added, having_counted, having_seen, rows_of_hand}
+use Rattle.shared.specs.Known.{IsBeginning, IsLegalKnown, Known, known_of, with_column}
 use Rattle.shared.proofs.BalanceLemmas.{rows_pushed, rows_widened}
 use Rattle.table.specs.Cause.{IsLegal, batch_cause, difference, is_book_full, is_table_full, null_cause, texts_cause}
 use Rattle.table.specs.Compacted.{IsCompacted}
@@ -17,7 +17,7 @@ use Rattle.table.specs.Contents.{Contents, admitted}
 use Rattle.table.specs.History.{History, rows}
 use Rattle.table.specs.declared.refusal.Refusal.{Refusal}
 use Rattle.table.specs.declared.refusal.Refusal.TheVariants.{BookFull, SchemaDiffers, TableFull}
-use Rattle.table.specs.Widened.{widened, with_field}
+use Rattle.table.specs.Widened.{widened, with_last_field}
 use Rattle.arrays.proofs.BatchLemmas.{length-rows_of}
 use Rattle.table.proofs.WidenedLemmas.{length-widened, widened-again}
 
@@ -101,11 +101,11 @@ shows_joined count max_rows k before after joined is =
     record { known = is.known ∙ sym (known_joined max_rows before after joined); workers = subst (IsOfWorkers count) (sym joined.history) is.workers }
 
 -- a worker that saw what begins with what it had seen
-pub seen : (k : Known) (old new : Hand) → Begins old.seen k → IsLegalKnown k → new ≡ having_seen k old → HasSeen old new
+pub seen : (k : Known) (old new : Hand) → IsBeginning old.seen k → IsLegalKnown k → new ≡ having_seen k old → HasSeen old new
 seen k old new begun legal is = subst (HasSeen old) (sym is) (record { number = refl; begun = begun; legal = legal; mine = refl; columns = refl; left = refl })
 
 -- it appended nothing more
-pub seen_kept : (old new : Hand) → HasSeen old new → IsKept old new
+pub seen_kept : (old new : Hand) → HasSeen old new → HasAddedNothing old new
 seen_kept old new is =
     let n = length new.seen.fields in
     record {
@@ -140,7 +140,7 @@ seen_added k s next b ready number mid known mid_is numbered same next_is =
     ∙ ap (λ (i : Known). record { fields = i.fields; history = i.history ++ (mid.number, rows_of b) ∷ [] }) (sym known ∙ sym mid_is)
 
 -- a worker has added the batch that the table admitted behind all that the worker then saw
-pub added : (k : Known) (s next : Contents) (b ready : Batch) (number : ℕ) (old mid new : Hand) → ready ≡ b → number ≡ mid.number → k ≡ known_of s → Begins old.seen k → mid ≡ having_seen k old
+pub added : (k : Known) (s next : Contents) (b ready : Batch) (number : ℕ) (old mid new : Hand) → ready ≡ b → number ≡ mid.number → k ≡ known_of s → IsBeginning old.seen k → mid ≡ having_seen k old
     → batch_cause s.fields s.history ready ≡ None → next ≡ admitted s number ready → IsLegal next.fields next.history → new ≡ having_added (rows_of b) mid → HasAdded b old new
 added k s next b ready number old mid new same numbered known begun mid_is allowed next_is legal new_is =
     let is : new ≡ having_added (rows_of b) (having_seen (known_of s) old) =
@@ -151,7 +151,7 @@ added k s next b ready number old mid new same numbered known begun mid_is allow
     subst (HasAdded b old) (sym is) (record {
       number = refl;
       before = known_of s;
-      begun = subst (Begins old.seen) known begun;
+      begun = subst (IsBeginning old.seen) known begun;
       allowed = subst (λ (x : Batch). batch_cause s.fields s.history x ≡ None) same allowed;
       fields = refl;
       history = refl;
@@ -162,8 +162,8 @@ added k s next b ready number old mid new same numbered known begun mid_is allow
     })
 
 -- a worker has added the column that the table has behind all that the worker then saw
-pub widened_by : (k l : Known) (s next : Contents) (f : FieldShape) (old mid later new : Hand) → k ≡ known_of s → l ≡ known_of next → next ≡ with_field s f → IsLegalKnown (known_of s)
-    → IsLegal next.fields next.history → Begins old.seen k → mid ≡ having_seen k old → later ≡ having_seen l mid → new ≡ having_counted later → HasWidened f old new
+pub widened_by : (k l : Known) (s next : Contents) (f : FieldShape) (old mid later new : Hand) → k ≡ known_of s → l ≡ known_of next → next ≡ with_last_field s f → IsLegalKnown (known_of s)
+    → IsLegal next.fields next.history → IsBeginning old.seen k → mid ≡ having_seen k old → later ≡ having_seen l mid → new ≡ having_counted later → HasWidened f old new
 widened_by k l s next f old mid later new k_is l_is added stood legal begun mid_is later_is new_is =
     let is : new ≡ having_counted (having_seen l (having_seen k old)) =
     new_is ∙ ap having_counted later_is ∙ ap (λ (w : Hand). having_counted (having_seen l w)) mid_is in

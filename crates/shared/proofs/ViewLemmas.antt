@@ -6,8 +6,8 @@ use Rattle.histories.proofs.PrefixLemmas.{prefix_length}
 use Rattle.shared.proofs.KnownLemmas.{begins_self, last_typed, pairs_more, wide_again}
 use Rattle.shared.proofs.PartLemmas.{part_pushed}
 use Rattle.shared.specs.Changes.{Change, fields_after, known_after, pair_added, pairs_in}
-use Rattle.shared.specs.Hand.{Hand, IsPartOf, having_added, having_seen}
-use Rattle.shared.specs.Known.{Begins, IsLegalKnown, Known}
+use Rattle.shared.specs.Hand.{Hand, IsWorkerOf, having_added, having_seen}
+use Rattle.shared.specs.Known.{IsBeginning, IsLegalKnown, Known}
 use Rattle.shared.specs.Left.{Left}
 use Rattle.shared.specs.Parts.{InOrder}
 use Rattle.table.specs.Cause.{IsTableOf}
@@ -25,7 +25,7 @@ hand_after first number seen mine columns left = record {
   left = left;
 }
 
-pub seen_after : (first : List FieldShape) (number : ℕ) (xs ys mine : List Change) (columns : ℕ) (left : Option Left) → Begins (known_after first xs) (known_after first ys)
+pub seen_after : (first : List FieldShape) (number : ℕ) (xs ys mine : List Change) (columns : ℕ) (left : Option Left) → IsBeginning (known_after first xs) (known_after first ys)
     → hand_after first number ys mine columns left ≡ having_seen (known_after first ys) (hand_after first number xs mine columns left)
 seen_after first number xs ys mine columns left begun =
     let m = length (fields_after first xs) in
@@ -57,7 +57,7 @@ order_added number t old new is numbered o =
 
 -- it is one of the table's workers by what it has seen itself
 pub own_part : (count : ℕ) (first : List FieldShape) (number : ℕ) (xs mine : List Change) (columns : ℕ) (left : Option Left) → number < count → IsLegalKnown (known_after first xs)
-    → InOrder (widened (length (fields_after first xs)) (pairs_in mine)) (of (known_after first xs).history number) → IsPartOf count (known_after first xs) (hand_after first number xs mine columns left)
+    → InOrder (widened (length (fields_after first xs)) (pairs_in mine)) (of (known_after first xs).history number) → IsWorkerOf count (known_after first xs) (hand_after first number xs mine columns left)
 own_part count first number xs mine columns left below legal o =
     let n = length (fields_after first xs) in
     record {

@@ -21,7 +21,7 @@ pub record ShowsKnown (count : ℕ) (k : Known) (c : Contents) : Type 0 where
 
 -- The table of so many workers, which was opened with these fields, shows what is known, which is legal; and the numbers count its
 -- pairs, their rows, and the fields that came since.
-pub record IsCounted (count : ℕ) (first : List FieldShape) (calls row_count columns : ℕ) (k : Known) (c : Contents) : Type 0 where
+pub record CountsKnown (count : ℕ) (first : List FieldShape) (calls row_count columns : ℕ) (k : Known) (c : Contents) : Type 0 where
   pub balanced : IsBalanced calls row_count c.history
   pub shown : ShowsKnown count k c
   pub legal : IsLegalKnown (known_of c)

@@ -35,16 +35,16 @@ abbrev pub pair_in : Change → Option (ℕ × Table)
 pair_in (pair_added e) = Some e
 pair_in (field_added f) = None
 
-abbrev pub field_in : Change → Option FieldShape
-field_in (pair_added e) = None
-field_in (field_added f) = Some f
+abbrev pub added_field : Change → Option FieldShape
+added_field (pair_added e) = None
+added_field (field_added f) = Some f
 
 -- The pairs that were added, with as many items in a row as there were fields then.
 abbrev pub pairs_in : List Change → History
 pairs_in changes = filter_map pair_in changes
 
 abbrev pub fields_in : List Change → List FieldShape
-fields_in changes = filter_map field_in changes
+fields_in changes = filter_map added_field changes
 
 -- The fields after the changes of a table that was opened with these.
 abbrev pub fields_after : List FieldShape → List Change → List FieldShape

@@ -9,13 +9,13 @@ use Rattle.table.specs.declared.refusal.Refusal.TheVariants.{SchemaDiffers, Null
 abbrev pub history_code : Coded History
 history_code = coded_list (coded× coded_ℕ table_code)
 
-abbrev numbers : Refusal → ℕ × (ℕ × ℕ)
-numbers (SchemaDiffers column) = (0, (column, 0))
-numbers (NullInNonNullable column row) = (1, (column, row))
-numbers TableFull = (2, (0, 0))
-numbers BookFull = (3, (0, 0))
-numbers (TextsFull column) = (4, (column, 0))
-numbers NoMemory = (5, (0, 0))
+abbrev refusal_numbers : Refusal → ℕ × (ℕ × ℕ)
+refusal_numbers (SchemaDiffers column) = (0, (column, 0))
+refusal_numbers (NullInNonNullable column row) = (1, (column, row))
+refusal_numbers TableFull = (2, (0, 0))
+refusal_numbers BookFull = (3, (0, 0))
+refusal_numbers (TextsFull column) = (4, (column, 0))
+refusal_numbers NoMemory = (5, (0, 0))
 
 abbrev refusal : ℕ → ℕ → ℕ → Refusal
 refusal zero column row = SchemaDiffers column
@@ -25,7 +25,7 @@ refusal (suc (suc (suc zero))) column row = BookFull
 refusal (suc (suc (suc (suc zero)))) column row = TextsFull column
 refusal (suc (suc (suc (suc (suc n))))) column row = NoMemory
 
-pub refusal_again : (r : Refusal) → refusal (numbers r).0 (numbers r).1.0 (numbers r).1.1 ≡ r
+pub refusal_again : (r : Refusal) → refusal (refusal_numbers r).0 (refusal_numbers r).1.0 (refusal_numbers r).1.1 ≡ r
 refusal_again (SchemaDiffers column) = refl
 refusal_again (NullInNonNullable column row) = refl
 refusal_again TableFull = refl
@@ -34,4 +34,4 @@ refusal_again (TextsFull column) = refl
 refusal_again NoMemory = refl
 
 abbrev pub refusal_code : Coded Refusal
-refusal_code = code_by (ℕ × (ℕ × ℕ)) (coded× coded_ℕ (coded× coded_ℕ coded_ℕ)) numbers (λ p. refusal p.0 p.1.0 p.1.1) refusal_again
+refusal_code = code_by (ℕ × (ℕ × ℕ)) (coded× coded_ℕ (coded× coded_ℕ coded_ℕ)) refusal_numbers (λ p. refusal p.0 p.1.0 p.1.1) refusal_again

@@ -4,7 +4,7 @@ use Rattle.std.specs.Coded.{Coded, code_by, coded_ℕ, coded_option, coded×}
 use Rattle.arrays.specs.Batch.{Batch, Table, rows_of}
 use Rattle.arrays.specs.Shape.{FieldShape}
 use Rattle.shared.specs.Code.{history_code}
-use Rattle.shared.specs.Known.{Begins, IsLegalKnown, Known, known_code, with_column}
+use Rattle.shared.specs.Known.{IsBeginning, IsLegalKnown, Known, known_code, with_column}
 use Rattle.shared.specs.Left.{Left, left_code}
 use Rattle.shared.specs.Parts.{InOrder}
 use Rattle.table.specs.Cause.{batch_cause}
@@ -62,7 +62,7 @@ pub record IsRaised (added : ℕ) (old new : Hand) : Type 0 where
   pub left : new.left ≡ old.left
 
 -- It added nothing more.
-pub record IsKept (old new : Hand) : Type 0 where
+pub record HasAddedNothing (old new : Hand) : Type 0 where
   pub number : new.number ≡ old.number
   pub calls : calls_of_hand new ≡ calls_of_hand old
   pub rows : rows_of_hand new ≡ rows_of_hand old
@@ -98,7 +98,7 @@ having_counted w = record { number = w.number; seen = w.seen; mine = w.mine; col
 -- It has seen what begins with what it had seen and is legal, and did nothing else.
 pub record HasSeen (old new : Hand) : Type 0 where
   pub number : new.number ≡ old.number
-  pub begun : Begins old.seen new.seen
+  pub begun : IsBeginning old.seen new.seen
   pub legal : IsLegalKnown new.seen
   pub mine : new.mine ≡ widened (length new.seen.fields) old.mine
   pub columns : new.columns ≡ old.columns
@@ -108,7 +108,7 @@ pub record HasSeen (old new : Hand) : Type 0 where
 pub record HasAdded (b : Batch) (old new : Hand) : Type 0 where
   pub number : new.number ≡ old.number
   pub before : Known
-  pub begun : Begins old.seen before
+  pub begun : IsBeginning old.seen before
   pub allowed : batch_cause before.fields before.history b ≡ None
   pub fields : new.seen.fields ≡ before.fields
   pub history : new.seen.history ≡ before.history ++ (old.number, rows_of b) ∷ []
@@ -121,7 +121,7 @@ pub record HasAdded (b : Batch) (old new : Hand) : Type 0 where
 pub record HasWidened (f : FieldShape) (old new : Hand) : Type 0 where
   pub number : new.number ≡ old.number
   pub before : Known
-  pub begun : Begins old.seen before
+  pub begun : IsBeginning old.seen before
   pub stood : IsLegalKnown before
   pub seen : new.seen ≡ with_column before f
   pub legal : IsLegalKnown new.seen
@@ -130,12 +130,12 @@ pub record HasWidened (f : FieldShape) (old new : Hand) : Type 0 where
   pub left : new.left ≡ old.left
 
 -- It is one of so many workers of a table: what it has seen begins what is known, and its pairs stand there in their order.
-pub record IsPartOf (count : ℕ) (k : Known) (w : Hand) : Type 0 where
+pub record IsWorkerOf (count : ℕ) (k : Known) (w : Hand) : Type 0 where
   pub below : w.number < count
-  pub begun : Begins w.seen k
+  pub begun : IsBeginning w.seen k
   pub ordered : InOrder (widened (length k.fields) w.mine) (of k.history w.number)
 
 -- What it has seen begins what is known, and its pairs there are those that it added.
-pub record IsWhole (k : Known) (w : Hand) : Type 0 where
-  pub begun : Begins w.seen k
+pub record HasAllItsPairs (k : Known) (w : Hand) : Type 0 where
+  pub begun : IsBeginning w.seen k
   pub whole : of k.history w.number ≡ widened (length k.fields) w.mine

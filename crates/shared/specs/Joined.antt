@@ -5,5 +5,5 @@ use Rattle.arrays.specs.Shape.{FieldShape}
 use Rattle.compaction.specs.Groups.{AreGroups}
 
 -- They are the groups of some batches: each is one of these, or several neighbours that one batch of so many rows holds.
-abbrev pub AreJoined : List FieldShape → ℕ → List Table → Type 0
-AreJoined fields max_rows tables = (before : List Table) × AreGroups fields max_rows before tables
+abbrev pub AreBatchGroups : List FieldShape → ℕ → List Table → Type 0
+AreBatchGroups fields max_rows tables = (before : List Table) × AreGroups fields max_rows before tables

@@ -35,7 +35,7 @@ with_column k f = record {
 
 -- The first is a beginning of the second: its fields are a front of the second's, and its history, ended with nulls up to as
 -- many fields, begins the second's.
-pub record Begins (k l : Known) : Type 0 where
+pub record IsBeginning (k l : Known) : Type 0 where
   pub fields : IsPrefix k.fields l.fields
   pub history : IsPrefix (widened (length l.fields) k.history) l.history
 

@@ -6,7 +6,7 @@ use Rattle.logbook.specs.Pages.{Book, book_coded}
 use Rattle.types.specs.Code.{field_code}
 
 -- The book of its log, its stored fields, its ledgers of calls, of rows and of columns, and how many workers it has.
-pub record Named : Type 0 where
+pub record NamedTable : Type 0 where
   pub book : Book
   pub fields : List FieldShape
   pub calls : ℕ
@@ -14,7 +14,7 @@ pub record Named : Type 0 where
   pub columns : ℕ
   pub workers : ℕ
 
-abbrev pub named_code : Coded Named
+abbrev pub named_code : Coded NamedTable
 named_code =
     code_by (Book × (List FieldShape × (ℕ × (ℕ × (ℕ × ℕ)))))
     (coded× book_coded (coded× (coded_list field_code) (coded× coded_ℕ (coded× coded_ℕ (coded× coded_ℕ coded_ℕ)))))
@@ -23,7 +23,7 @@ named_code =
     (λ _. refl)
 
 -- The name is of this.
-pub record IsNamed (book : Book) (fields : List FieldShape) (calls row_count columns workers : ℕ) (n : Named) : Type 0 where
+pub record IsNamed (book : Book) (fields : List FieldShape) (calls row_count columns workers : ℕ) (n : NamedTable) : Type 0 where
   pub book_is : n.book ≡ book
   pub fields_are : n.fields ≡ fields
   pub calls_are : n.calls ≡ calls

@@ -7,7 +7,7 @@ ghost use Rattle.arrays.specs.Shape.{field_of};
 ghost use Rattle.shared.specs.Missing.{AllThere};
 ghost use Rattle.shared.specs.Balance.{IsOfWorkers, ShowsKnown};
 ghost use Rattle.shared.specs.Changes.{known_after};
-ghost use Rattle.shared.specs.Hand.{HasAdded, HasSeen, HasWidened, IsPartOf, IsWhole, calls_of_hand, columns_of_hand, rows_of_hand};
+ghost use Rattle.shared.specs.Hand.{HasAdded, HasSeen, HasWidened, IsWorkerOf, HasAllItsPairs, calls_of_hand, columns_of_hand, rows_of_hand};
 ghost use Rattle.shared.specs.Known.{IsLegalKnown, known_of};
 ghost use Rattle.shared.specs.Showing.{next_number};
 ghost use Rattle.table.specs.Cause.{IsLegal, batch_cause, early_cause};
@@ -15,7 +15,7 @@ ghost use Rattle.table.specs.Compacted.{IsCompacted};
 ghost use Rattle.table.specs.Contents.{Contents, admitted};
 ghost use Rattle.table.specs.History.{rows};
 ghost use Rattle.table.specs.Stored.{stored_field};
-ghost use Rattle.table.specs.Widened.{add_fault, with_field};
+ghost use Rattle.table.specs.Widened.{add_fault, with_last_field};
 
 use crate::ledgers::{Books, Shares};
 use crate::lending::tell_totals;
@@ -60,13 +60,13 @@ impl<N: Naming, P: Publish<Item = Shown<N>>> Model for Locked<N, P> {
 
     ghost use Rattle.std.specs.Prelude.{◌≡◌, IfSome};
     ghost use Rattle.std.specs.Arc.{arc_value};
-    ghost use Rattle.shared.specs.Balance.{IsCounted};
+    ghost use Rattle.shared.specs.Balance.{CountsKnown};
     ghost use Rattle.shared.specs.Changes.{known_after};
 
     ghost view = { λ l. l.state };
 
     ghost invariant = { λ l. record {
-      counted : IsCounted N.workers N.fields l.books.calls.total l.books.rows.total l.books.columns.total (known_after N.fields l.front) l.state;
+      counted : CountsKnown N.workers N.fields l.books.calls.total l.books.rows.total l.books.columns.total (known_after N.fields l.front) l.state;
       newest : IfSome l.newest (λ v. arc_value v ≡ l.state);
       shown : IfSome l.publisher (λ p. P.shows p (record { contents = l.state; number = l.number }));
       no_call_part : l.nothing.calls.parts ≡ 0;
@@ -174,7 +174,7 @@ impl<N: Naming, P: Publish<Item = Shown<N>>> Locked<N, P> {
         field: &Field,
     ) -> Result<(), AddFault>
         ensures allowed { OnOk result (add_fault (field_of field.now) ≡ None) }
-        ensures added { OnOk result (self.new ≡ with_field self.old (stored_field (field_of field.now))) }
+        ensures added { OnOk result (self.new ≡ with_last_field self.old (stored_field (field_of field.now))) }
         ensures widened { OnOk result (HasWidened (stored_field (field_of field.now)) worker.old worker.new) }
         ensures err { IfErr result (λ e. ((e ≡ AddFault.NoMemory) × (add_fault (field_of field.now) ≡ None))
             ⊎ (add_fault (field_of field.now) ≡ Some e)) }
@@ -226,7 +226,7 @@ impl<N: Naming, P: Publish<Item = Shown<N>>> Locked<N, P> {
         ensures opened { IsPrefix N.fields self.old.fields }
         ensures known { IsOfWorkers N.workers self.old.history }
         ensures legal { IsLegalKnown (known_of self.old) }
-        ensures whole { All (IsWhole (known_of self.old)) workers.old }
+        ensures whole { All (HasAllItsPairs (known_of self.old)) workers.old }
     {
         tell_totals(&mut self.books, &mut self.nothing, workers);
         begin_all(wait, workers, &self.front);
@@ -236,7 +236,7 @@ impl<N: Naming, P: Publish<Item = Shown<N>>> Locked<N, P> {
 
 /// Returns once what each worker has seen begins what is known by the front, as it does at once where it isn't more.
 fn begin_all<N: Naming, W: Wait>(wait: &W, workers: &[Worker<N>], front: &Front<Event, N>)
-    ensures { All (IsPartOf N.workers (known_after N.fields front.now)) workers.now }
+    ensures { All (IsWorkerOf N.workers (known_after N.fields front.now)) workers.now }
 {
     for worker in workers {
         begin_worker(wait, worker, front);
@@ -246,7 +246,7 @@ fn begin_all<N: Naming, W: Wait>(wait: &W, workers: &[Worker<N>], front: &Front<
 /// The same of what one worker has seen.
 #[tactic(auto, using(crate::proofs::PartLemmas::part_more))]
 fn begin_worker<N: Naming, W: Wait>(wait: &W, worker: &Worker<N>, front: &Front<Event, N>)
-    ensures { IsPartOf N.workers (known_after N.fields front.now) worker.now }
+    ensures { IsWorkerOf N.workers (known_after N.fields front.now) worker.now }
 {
     worker.tell();
     begin(wait, &worker.seen, front);

@@ -7,7 +7,7 @@ ghost use Rattle.shared.specs.Balance.{ShowsKnown};
 ghost use Rattle.shared.specs.Changes.{known_after};
 ghost use Rattle.shared.specs.Hand.{AreNew};
 ghost use Rattle.shared.specs.Named.{IsNamed};
-ghost use Rattle.shared.specs.Opened.{IsCount, IsFew, IsOpenFault};
+ghost use Rattle.shared.specs.Opened.{IsWorkerCount, IsFew, IsOpenFault};
 ghost use Rattle.table.specs.Stored.{stored_fields};
 
 use crate::fault::OpenFault;
@@ -42,9 +42,9 @@ pub struct Opening {
 }
 
 impl Model for Opening {
-    ghost use Rattle.shared.specs.Named.{Named, named_code};
+    ghost use Rattle.shared.specs.Named.{NamedTable, named_code};
 
-    ghost Value = { Named };
+    ghost Value = { NamedTable };
 
     ghost coded = { named_code };
 
@@ -144,7 +144,7 @@ pub fn open<N: Naming, R: Wait + Drop>(
     ensures count { IfOk result (λ r. length r.1.items ≡ opening.workers) }
     ensures new { IfOk result (λ r. AreNew N.fields 0 r.1.items) }
     ensures readers { IfOk result (λ r. r.2.items ≡ replicate readers (record { fields = N.fields; history = [] })) }
-    ensures few { OnOk result (IsCount opening.workers × IsFew readers) }
+    ensures few { OnOk result (IsWorkerCount opening.workers × IsFew readers) }
     ensures err { IfErr result (IsOpenFault opening.workers readers) }
 {
     let workers = opening.workers();
@@ -159,7 +159,7 @@ pub fn open<N: Naming, R: Wait + Drop>(
 
 /// That a table may have so many workers and readers.
 pub(crate) fn check_counts(workers: u32, readers: u32) -> Result<(), OpenFault>
-    ensures ok { OnOk result (IsCount workers × IsFew readers) }
+    ensures ok { OnOk result (IsWorkerCount workers × IsFew readers) }
     ensures err { IfErr result (IsOpenFault workers readers) }
 {
     if workers == 0 {

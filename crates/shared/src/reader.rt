@@ -4,7 +4,7 @@ ghost use Rattle.std.specs.Prelude.{◌≡◌, ◌⊎◌, IfOk, OnErr};
 ghost use Rattle.std.specs.Arc.{arc_value};
 ghost use Rattle.shared.specs.Balance.{IsOfWorkers};
 ghost use Rattle.shared.specs.Changes.{known_after};
-ghost use Rattle.shared.specs.Known.{Begins, IsLegalKnown, known_of};
+ghost use Rattle.shared.specs.Known.{IsBeginning, IsLegalKnown, known_of};
 
 use crate::naming::{Event, Naming};
 use crate::outcome::Receipt;
@@ -63,7 +63,7 @@ impl<N: Naming> Reader<N> {
     /// # Errors
     /// `NoMemory` where the copy of the version was refused, and where the table has ended. What is known stays.
     pub fn latest(&mut self) -> Result<Arc<Version>, NoMemory>
-        ensures begun { IfOk result (λ v. Begins self.old (known_of (arc_value v))) }
+        ensures begun { IfOk result (λ v. IsBeginning self.old (known_of (arc_value v))) }
         ensures known { IfOk result (λ v. self.new ≡ known_of (arc_value v)) }
         ensures legal { IfOk result (λ v. IsLegalKnown (known_of (arc_value v))) }
         ensures workers { IfOk result (λ v. IsOfWorkers N.workers (arc_value v).history) }
@@ -85,8 +85,8 @@ impl<N: Naming> Reader<N> {
 
     /// Learns of a batch that was appended: versions show it from now on.
     pub fn learn(&mut self, receipt: &Receipt<N>)
-        ensures old { Begins self.old self.new }
-        ensures reported { Begins receipt.now self.new }
+        ensures old { IsBeginning self.old self.new }
+        ensures reported { IsBeginning receipt.now self.new }
         ensures one { (self.new ≡ self.old) ⊎ (self.new ≡ receipt.now) }
     {
         if self.known.begins(&receipt.front) {

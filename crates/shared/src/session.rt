@@ -4,7 +4,7 @@ ghost use Rattle.std.specs.Prelude.{◌≡◌, ℕ, List, [], IfErr, IfOk, lengt
 ghost use Rattle.arrays.specs.Shape.{FieldShape};
 ghost use Rattle.shared.specs.Hand.{AreNew};
 ghost use Rattle.shared.specs.Named.{IsNamed};
-ghost use Rattle.shared.specs.Opened.{IsCount, IsFew, IsOpenFault};
+ghost use Rattle.shared.specs.Opened.{IsWorkerCount, IsFew, IsOpenFault};
 ghost use Rattle.table.specs.Stored.{stored_fields};
 
 use crate::fault::OpenFault;
@@ -34,7 +34,7 @@ pub trait Session: Drop {
         workers: Vec<Worker<N>>,
         readers: Vec<Reader<N>>,
     ) -> Self::Output
-        requires some { IsCount table }
+        requires some { IsWorkerCount table }
         requires count { length workers.items ≡ table }
         requires new { AreNew N.fields 0 workers.items }
         requires few { IsFew (length readers.items) }

@@ -7,9 +7,9 @@ ghost use Rattle.arrays.specs.Shape.{field_of};
 ghost use Rattle.compaction.specs.Groups.{AreApart};
 ghost use Rattle.shared.specs.Balance.{IsOfWorkers};
 ghost use Rattle.shared.specs.Gathered.{Stands};
-ghost use Rattle.shared.specs.Hand.{HasAdded, HasSeen, HasWidened, IsKept, IsRaised, IsWhole, calls_of_hand, columns_of_hand, rows_of_hand};
+ghost use Rattle.shared.specs.Hand.{HasAdded, HasSeen, HasWidened, HasAddedNothing, IsRaised, HasAllItsPairs, calls_of_hand, columns_of_hand, rows_of_hand};
 ghost use Rattle.shared.specs.Known.{IsLegalKnown, known_of};
-ghost use Rattle.shared.specs.Joined.{AreJoined};
+ghost use Rattle.shared.specs.Joined.{AreBatchGroups};
 ghost use Rattle.shared.specs.Missing.{AllThere};
 ghost use Rattle.table.specs.Cause.{batch_cause};
 ghost use Rattle.table.specs.History.{rows};
@@ -109,7 +109,7 @@ impl<N: Naming, P: Publish<Item = Shown<N>>> SharedTable<N, P> {
         batch: &RecordBatch,
     ) -> Result<Receipt<N>, Refusal>
         ensures raised { OnOk result (IsRaised batch.now.rows worker.old worker.new) }
-        ensures kept { OnErr result (IsKept worker.old worker.new) }
+        ensures kept { OnErr result (HasAddedNothing worker.old worker.new) }
         ensures added { OnOk result (HasAdded batch.now worker.old worker.new) }
         ensures receipt { IfOk result (λ r. r ≡ worker.new.seen) }
         ensures seen { OnErr result (HasSeen worker.old worker.new) }
@@ -127,7 +127,7 @@ impl<N: Naming, P: Publish<Item = Shown<N>>> SharedTable<N, P> {
         wait: &W,
         worker: &mut Worker<N>,
     ) -> Result<Arc<Version>, NoMemory>
-        ensures kept { IsKept worker.old worker.new }
+        ensures kept { HasAddedNothing worker.old worker.new }
         ensures seen { HasSeen worker.old worker.new }
         ensures all { IfOk result (λ v. known_of (arc_value v) ≡ worker.new.seen) }
         ensures known { IfOk result (λ v. IsOfWorkers self.now (arc_value v).history) }
@@ -144,11 +144,11 @@ impl<N: Naming, P: Publish<Item = Shown<N>>> SharedTable<N, P> {
         worker: &mut Worker<N>,
         max_rows: u32,
     ) -> Result<Arc<Version>, NoMemory>
-        ensures kept { IsKept worker.old worker.new }
+        ensures kept { HasAddedNothing worker.old worker.new }
         ensures seen { HasSeen worker.old worker.new }
         ensures all { IfOk result (λ v. known_of (arc_value v) ≡ worker.new.seen) }
         ensures known { IfOk result (λ v. IsOfWorkers self.now (arc_value v).history) }
-        ensures joined { IfOk result (λ v. AreJoined (arc_value v).fields max_rows (arc_value v).batches) }
+        ensures joined { IfOk result (λ v. AreBatchGroups (arc_value v).fields max_rows (arc_value v).batches) }
         ensures apart { IfOk result (λ v. AreApart (arc_value v).fields max_rows (arc_value v).batches) }
     {
         self.lock.lock(wait).compact(wait, worker, max_rows)
@@ -188,7 +188,7 @@ impl<N: Naming, P: Publish<Item = Shown<N>>> SharedTable<N, P> {
         ensures all { OnOk result (AllThere self workers.items) }
         ensures calls { IfOk result (λ g. length (arc_value g.version).history ≡ sum_by calls_of_hand workers.items) }
         ensures rows { IfOk result (λ g. length (rows (arc_value g.version).history) ≡ sum_by rows_of_hand workers.items) }
-        ensures whole { IfOk result (λ g. All (IsWhole (known_of (arc_value g.version))) workers.items) }
+        ensures whole { IfOk result (λ g. All (HasAllItsPairs (known_of (arc_value g.version))) workers.items) }
         ensures known { IfOk result (λ g. IsOfWorkers self (arc_value g.version).history) }
         ensures legal { IfOk result (λ g. IsLegalKnown (known_of (arc_value g.version))) }
         ensures columns { IfOk result (λ g. length (arc_value g.version).fields ≡ length N.fields + sum_by columns_of_hand workers.items) }
@@ -226,7 +226,7 @@ impl<N: Naming, P: Publish<Item = Shown<N>>> SharedTable<N, P> {
         ensures workers { workers.new ≡ workers.old }
         ensures calls { IfOk result (λ v. length (arc_value v).history ≡ sum_by calls_of_hand workers.old) }
         ensures rows { IfOk result (λ v. length (rows (arc_value v).history) ≡ sum_by rows_of_hand workers.old) }
-        ensures whole { IfOk result (λ v. All (IsWhole (known_of (arc_value v))) workers.old) }
+        ensures whole { IfOk result (λ v. All (HasAllItsPairs (known_of (arc_value v))) workers.old) }
         ensures known { IfOk result (λ v. IsOfWorkers self.now (arc_value v).history) }
         ensures legal { IfOk result (λ v. IsLegalKnown (known_of (arc_value v))) }
         ensures columns { IfOk result (λ v. length (arc_value v).fields ≡ length N.fields + sum_by columns_of_hand workers.old) }

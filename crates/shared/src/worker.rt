@@ -4,8 +4,8 @@ ghost use Rattle.std.specs.Prelude.{◌≡◌, ◌+◌, ◌-◌, ◌<◌, ◌^�
 ghost use mathlib.Core.List.{IsPrefix};
 ghost use Rattle.arrays.specs.Batch.{rows_of};
 ghost use Rattle.shared.specs.Changes.{known_after};
-ghost use Rattle.shared.specs.Hand.{AreNew, Hand, IsLeft, IsNew, IsPartOf, calls_of_hand, having_added, having_counted, having_seen, rows_of_hand};
-ghost use Rattle.shared.specs.Known.{Begins, IsLegalKnown};
+ghost use Rattle.shared.specs.Hand.{AreNew, Hand, IsLeft, IsNew, IsWorkerOf, calls_of_hand, having_added, having_counted, having_seen, rows_of_hand};
+ghost use Rattle.shared.specs.Known.{IsBeginning, IsLegalKnown};
 ghost use Rattle.table.specs.Widened.{widened};
 
 use crate::ledgers::{Books, Columns, Shares};
@@ -134,7 +134,7 @@ impl<N: Naming> Worker<N> {
     pub fn tell(&self)
         ensures opened { IsPrefix N.fields self.now.seen.fields }
         ensures legal { IsLegalKnown self.now.seen }
-        ensures part { IsPartOf N.workers self.now.seen self.now }
+        ensures part { IsWorkerOf N.workers self.now.seen self.now }
         ensures wide { widened (length self.now.seen.fields) self.now.mine ≡ self.now.mine }
     {
         let _number = self.number;
@@ -144,7 +144,7 @@ impl<N: Naming> Worker<N> {
     /// shorter.
     pub(crate) fn see<W: Wait>(&mut self, wait: &W, front: &Front<Event, N>)
         requires { IsLegalKnown (known_after N.fields front.now) }
-        ensures begun { Begins self.old.seen (known_after N.fields front.now) }
+        ensures begun { IsBeginning self.old.seen (known_after N.fields front.now) }
         ensures seen { self.new ≡ having_seen (known_after N.fields front.now) self.old }
     {
         begin(wait, &self.seen, front);

@@ -11,7 +11,7 @@ use Rattle.query.specs.declared.fault.QueryFault.{QueryFault}
 use Rattle.answers.specs.Answers.{IsAnswer, IsRefusal, all_rows, first_fields}
 use Rattle.answers.specs.Groups.{GroupShape, groups}
 use Rattle.answers.specs.declared.groups.Answer.{Answer}
-use Rattle.table.specs.Lawful.{IsStored, table_of}
+use Rattle.table.specs.Lawful.{IsStored, rows_of_batches}
 
 module _ (fields : List FieldShape) where
   stored_first : (b : Batch) (bs : List Batch) → All (IsStored fields) (b ∷ bs) → b.fields ≡ fields
@@ -31,10 +31,10 @@ module _ (fields : List FieldShape) where
   same_groups q [] stored = refl
   same_groups q (b ∷ bs) stored = ap (λ fs. groups fs q (all_rows (b ∷ bs))) (stored_first b bs stored)
 
-  of_table : (q : QueryShape ℕ) (bs : List Batch) (t : Table) → All (IsStored fields) bs → table_of bs ≡ t → groups (first_fields bs) q (all_rows bs) ≡ groups fields q t
+  of_table : (q : QueryShape ℕ) (bs : List Batch) (t : Table) → All (IsStored fields) bs → rows_of_batches bs ≡ t → groups (first_fields bs) q (all_rows bs) ≡ groups fields q t
   of_table q bs t stored same = same_groups q bs stored ∙ ap (groups fields q) same
 
-  module _ (q : QueryShape ℕ) (bs : List Batch) (t : Table) (stored : All (IsStored fields) bs) (same : table_of bs ≡ t) where
+  module _ (q : QueryShape ℕ) (bs : List Batch) (t : Table) (stored : All (IsStored fields) bs) (same : rows_of_batches bs ≡ t) where
     pub answers_table : (r : Result Answer QueryFault) → IfOk r (IsAnswer (first_fields bs) q (all_rows bs)) → IfOk r (IsAnswer fields q t)
     answers_table (Ok a) is = sym (of_table q bs t stored same) ∙ is
     answers_table (Err e) is = tt

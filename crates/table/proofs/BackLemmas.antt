@@ -15,8 +15,8 @@ use Rattle.arrays.specs.Shown.{shown}
 use Rattle.pool.specs.Texts.{firsts, texts_of}
 use Rattle.table.specs.Storage.{IsConsistent, batches_of}
 use Rattle.arrays.specs.Batch.{Table, column}
-use Rattle.table.specs.Lawful.{dictionaries_of, dictionary_in, table_of, texts_in}
-use Rattle.table.specs.Ready.{BeginWithTexts, all_texts}
+use Rattle.table.specs.Lawful.{dictionaries_of, dictionary_in, rows_of_batches, texts_in}
+use Rattle.table.specs.Ready.{BeginWithTexts, column_texts}
 use Rattle.table.specs.Recoded.{entry_count, shortened}
 use Rattle.table.specs.Stored.{is_text_field}
 use Rattle.table.specs.declared.storage.Storage.{Storage}
@@ -65,13 +65,13 @@ length-both (d ∷ ds) [] news counts begun = absurd counts
 length-both (d ∷ ds) (o ∷ olds) [] counts begun = absurd begun
 length-both (d ∷ ds) (o ∷ olds) (n ∷ news) counts begun = ap suc (length-both ds olds news counts.1 begun.1)
 
-module _ (h : Storage) (is : IsConsistent h) (pools : List (List (List ℕ))) (begun : BeginWithTexts h (table_of (batches_of h)) pools) where
+module _ (h : Storage) (is : IsConsistent h) (pools : List (List (List ℕ))) (begun : BeginWithTexts h (rows_of_batches (batches_of h)) pools) where
   abbrev texts : List (List (List ℕ))
-  texts = all_texts h (table_of (batches_of h))
+  texts = column_texts h (rows_of_batches (batches_of h))
 
   counted-texts : AllZip SameCount h.dictionaries.items texts
   unfolding dictionaries_of
-  counted-texts = counts-all (table_of (batches_of h)) (enumerate_from 0 (arc_value h.schema)) h.dictionaries.items is.lawful.texts
+  counted-texts = counts-all (rows_of_batches (batches_of h)) (enumerate_from 0 (arc_value h.schema)) h.dictionaries.items is.lawful.texts
 
   pub back-count : length h.dictionaries.items ≡ length pools
   back-count = length-both h.dictionaries.items texts pools counted-texts begun

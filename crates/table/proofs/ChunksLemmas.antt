@@ -11,7 +11,7 @@ use Rattle.std.proofs.lemmas.List.{append-nil, get_or_append_left, get_or-append
 use Rattle.std.proofs.lemmas.List.Concat.{flat_map-append, flat_map-cons, get_or-flat_map}
 use Rattle.std.proofs.lemmas.List.Elements.{All-head, All-push, All-same, All-tail, All-take, length_all_zip}
 use Rattle.std.proofs.lemmas.Option.{slice_get-get_or}
-use Rattle.table.specs.Chunks.{AreChunks, AreCopies, values_of}
+use Rattle.table.specs.Chunks.{AreChunks, AreCopies, chunk_values}
 
 module _ (T : Type 0) where
   abbrev Chunk : Type 0
@@ -36,11 +36,11 @@ module _ (T : Type 0) where
 
 -- ---- one value
 
-module _ (T : Type 0) (shared : List (Arc (Vec T Global) Global)) (last : List T) (len : ℕ) (is : AreChunks (map arc_value shared) last len) (shown : List T) (view_is : values_of (map arc_value shared) last ≡ shown) (i : ℕ) (within : i < length shown) where
+module _ (T : Type 0) (shared : List (Arc (Vec T Global) Global)) (last : List T) (len : ℕ) (is : AreChunks (map arc_value shared) last len) (shown : List T) (view_is : chunk_values (map arc_value shared) last ≡ shown) (i : ℕ) (within : i < length shown) where
   abbrev chunks : List (Vec T Global)
   chunks = map arc_value shared
 
-  below : i < length (values_of chunks last)
+  below : i < length (chunk_values chunks last)
   below = omega (arith, within, ap (λ (l : List T). length l) view_is)
 
   count : length chunks ≡ length shared
@@ -49,12 +49,12 @@ module _ (T : Type 0) (shared : List (Arc (Vec T Global) Global)) (last : List T
   long : length (joined T chunks) ≡ 128 * length shared
   long = omega (arith, length-joined T chunks is.chunks, count)
 
-  many : length (values_of chunks last) ≡ length (joined T chunks) + length last
+  many : length (chunk_values chunks last) ≡ length (joined T chunks) + length last
   many = length-append (joined T chunks) last
 
   -- the value at the place is the list's
-  value-at : (x : T) → get_or (values_of chunks last) i x ≡ x → slice_get shown i ≡ Some x
-  value-at x at = ap (λ (l : List T). slice_get l i) (sym view_is) ∙ slice_get-get_or (values_of chunks last) i x below ∙ ap Some at
+  value-at : (x : T) → get_or (chunk_values chunks last) i x ≡ x → slice_get shown i ≡ Some x
+  value-at x at = ap (λ (l : List T). slice_get l i) (sym view_is) ∙ slice_get-get_or (chunk_values chunks last) i x below ∙ ap Some at
 
   -- where it lies in a full chunk
   module _ (c : Arc (Vec T Global) Global) (at : i / 128 < length shared) (there : c ≡ get_or shared (i / 128) c) where
@@ -107,12 +107,12 @@ module _ (T : Type 0) (clones : T → T → Type 0) where
   copies-behind (x ∷ front) xs ys are = (inl refl, copies-behind front xs ys are)
 
   -- a copy of the last values, and one behind them
-  module _ (full : List (Vec T Global)) (last shown : List T) (value : T) (view_is : values_of full last ≡ shown) (new : List T) (are : AreCopies clones (last ++ value ∷ []) new) where
-    pub copies-last : (others : List (Vec T Global)) → others ≡ full → AreCopies clones (shown ++ value ∷ []) (values_of others new)
+  module _ (full : List (Vec T Global)) (last shown : List T) (value : T) (view_is : chunk_values full last ≡ shown) (new : List T) (are : AreCopies clones (last ++ value ∷ []) new) where
+    pub copies-last : (others : List (Vec T Global)) → others ≡ full → AreCopies clones (shown ++ value ∷ []) (chunk_values others new)
     copies-last others same =
-        subst (λ (l : List (Vec T Global)). AreCopies clones (shown ++ value ∷ []) (values_of l new)) (sym same)
-        (subst (λ (l : List T). AreCopies clones (l ++ value ∷ []) (values_of full new)) view_is
-        (subst (λ (l : List T). AreCopies clones l (values_of full new)) (sym (append_assoc (joined T full) last (value ∷ [])))
+        subst (λ (l : List (Vec T Global)). AreCopies clones (shown ++ value ∷ []) (chunk_values l new)) (sym same)
+        (subst (λ (l : List T). AreCopies clones (l ++ value ∷ []) (chunk_values full new)) view_is
+        (subst (λ (l : List T). AreCopies clones l (chunk_values full new)) (sym (append_assoc (joined T full) last (value ∷ [])))
         (copies-behind (joined T full) (last ++ value ∷ []) new are)))
 
     length-new : length new ≡ length last + 1
@@ -120,7 +120,7 @@ module _ (T : Type 0) (clones : T → T → Type 0) where
 
     -- where they are a full chunk
     module _ (v : Vec T Global) (closed : v.items ≡ new) (others : List (Vec T Global)) (pushed : others ≡ full ++ v ∷ []) (behind : List T) (none : behind ≡ []) where
-      values-pushed : values_of others behind ≡ values_of full new
+      values-pushed : chunk_values others behind ≡ chunk_values full new
       values-pushed =
           ap (λ (l : List T). joined T others ++ l) none
           ∙ append-nil (joined T others)
@@ -128,7 +128,7 @@ module _ (T : Type 0) (clones : T → T → Type 0) where
           ∙ flat_map-append (λ (x : Vec T Global). x.items) full (v ∷ [])
           ∙ ap (λ (l : List T). joined T full ++ l) (append-nil v.items ∙ closed)
 
-      pub copies-full : AreCopies clones (shown ++ value ∷ []) (values_of others behind)
+      pub copies-full : AreCopies clones (shown ++ value ∷ []) (chunk_values others behind)
       copies-full = subst (λ (l : List T). AreCopies clones (shown ++ value ∷ []) l) (sym values-pushed) (copies-last full refl)
 
       pub chunks-full : (len : ℕ) → AreChunks full last len → 128 ≤ length new → AreChunks others behind (len + 1)

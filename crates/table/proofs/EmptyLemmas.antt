@@ -18,10 +18,10 @@ use Rattle.group.specs.declared.stats.ColumnStats.{ColumnStats}
 use Rattle.table.specs.Cause.{IsLegal}
 use Rattle.table.specs.Contents.{Contents}
 use Rattle.table.specs.Storage.{IsConsistent, batches_of, book_of, dictionaries_in, pieces_in, show}
-use Rattle.table.specs.History.{History, cut}
-use Rattle.table.specs.Lawful.{LawfulTable, counted, dictionaries_of, dictionary_in, table_of, texts_in}
+use Rattle.table.specs.History.{History, history_from}
+use Rattle.table.specs.Lawful.{LawfulTable, book_rows, dictionaries_of, dictionary_in, rows_of_batches, texts_in}
 use Rattle.compaction.specs.Statistics.{AreStatsOf}
-use Rattle.table.specs.Ready.{AreTexts}
+use Rattle.table.specs.Ready.{ArePools}
 use Rattle.table.specs.Stored.{is_text_field, stored_field, stored_fields}
 use Rattle.table.specs.declared.storage.Storage.{Storage}
 use Rattle.group.proofs.ColumnsLemmas.{all_zip-push}
@@ -85,7 +85,7 @@ lawful-empty : (fields : List FieldShape) (stats : List ColumnStats) (dictionari
     → LawfulTable fields [] [] stats dictionaries []
 lawful-empty fields stats dictionaries are texts = record {
   stored = λ k d below. absurd (omega (arith, below));
-  ends = λ i within. record { entries = 0; each = within; within = omega arith; same = ap (λ (l : List Batch). length (table_of l)) (take_all i [] (omega (arith, within))) };
+  ends = λ i within. record { entries = 0; each = within; within = omega arith; same = ap (λ (l : List Batch). length (rows_of_batches l)) (take_all i [] (omega (arith, within))) };
   some = λ entry. absurd (omega (arith, entry));
   counts = refl;
   few = omega arith;
@@ -118,22 +118,22 @@ storage-empty h batches pieces entries rows are texts =
           (subst (λ (p : List (List ColumnStats)). LawfulTable fields [] p (arc_value h.stats).items (dictionaries_in h) (book_of h)) (sym no_pieces)
           (subst (λ (e : List (ℕ × ℕ)). LawfulTable fields [] [] (arc_value h.stats).items (dictionaries_in h) e) (sym entries)
           (lawful-empty fields (arc_value h.stats).items (dictionaries_in h) are texts)));
-      rows = rows ∙ ap counted (sym entries);
-      legal = subst (IsLegal fields) (ap (λ (e : List (ℕ × ℕ)). cut e (table_of (batches_of h))) (sym entries)) (legal-empty fields);
+      rows = rows ∙ ap book_rows (sym entries);
+      legal = subst (IsLegal fields) (ap (λ (e : List (ℕ × ℕ)). history_from e (rows_of_batches (batches_of h))) (sym entries)) (legal-empty fields);
     }
 
 -- ---- pools of an empty table
 
-no_table : (batches : List Batch) → map rows_of batches ≡ [] → table_of batches ≡ []
+no_table : (batches : List Batch) → map rows_of batches ≡ [] → rows_of_batches batches ≡ []
 no_table [] none = refl
 no_table (b ∷ batches) none = absurd cc
 
 -- a table that shows nothing has no texts
 pub texts-empty : (h : Storage) (given : List FieldShape) (count : ℕ) (pools : List (List (List ℕ))) → ◌≡◌ {A = Contents} (show h) (record { fields = stored_fields given; history = []; batches = [] })
-    → count ≡ length given → pools ≡ replicate count [] → AreTexts h (table_of (batches_of h)) pools
+    → count ≡ length given → pools ≡ replicate count [] → ArePools h (rows_of_batches (batches_of h)) pools
 texts-empty h given count pools shows same is =
     let fields : arc_value h.schema ≡ stored_fields given = ap (λ (s : Contents). s.fields) shows in
-    let table : table_of (batches_of h) ≡ [] = no_table (batches_of h) (ap (λ (s : Contents). s.batches) shows) in
+    let table : rows_of_batches (batches_of h) ≡ [] = no_table (batches_of h) (ap (λ (s : Contents). s.batches) shows) in
     is
     ∙ no_texts-are (arc_value h.schema) count (same ∙ sym (length-map given stored_field) ∙ ap (λ (f : List FieldShape). length f) (sym fields))
     ∙ ap (λ (t : Table). map (texts_in t) (enumerate_from 0 (arc_value h.schema))) (sym table)

@@ -22,11 +22,11 @@ use Rattle.arrays.specs.Kind.{same_kind}
 use Rattle.arrays.specs.Seen.{Seen, part}
 use Rattle.arrays.specs.Shape.{FieldShape, kind_of_field}
 use Rattle.select.proofs.ChosenLemmas.{items-chosen, kind-chosen}
-use Rattle.table.specs.Export.{HasMore, IsLawful, IsPlace, IsUnder, copied, passed, rows_before}
+use Rattle.table.specs.Export.{HasMore, IsLawful, IsExportPlace, IsUnder, copied, passed, rows_before}
 use Rattle.table.specs.Book.{pair_of}
 use Rattle.table.specs.Storage.{IsConsistent, batches_of, book_of, show}
-use Rattle.table.specs.History.{cut}
-use Rattle.table.specs.Lawful.{EndsWithEntry, counted, table_of}
+use Rattle.table.specs.History.{history_from}
+use Rattle.table.specs.Lawful.{EndsWithEntry, book_rows, rows_of_batches}
 use Rattle.table.specs.declared.entry.Entry.{Entry}
 use Rattle.table.specs.declared.export.Place.{Place}
 use Rattle.table.specs.declared.storage.Storage.{Storage}
@@ -42,30 +42,30 @@ Shared = Arc Batch Global
 
 -- the table of entry k begins behind the rows of the entries before it
 pub table-at : (entries : List (ℕ × ℕ)) (t : Table) (k : ℕ) (e : ℕ × ℕ) → slice_get entries k ≡ Some e
-    → slice_get (map (λ (p : ℕ × Table). p.1) (cut entries t)) k ≡ Some (slice t (counted (take k entries)) e.1)
+    → slice_get (map (λ (p : ℕ × Table). p.1) (history_from entries t)) k ≡ Some (slice t (book_rows (take k entries)) e.1)
 table-at [] t k e at = absurd cc
 table-at (x ∷ rest) t zero e at = ap (λ (p : ℕ × ℕ). Some (take p.1 t)) (same_Some x e at)
 table-at (x ∷ rest) t (suc k) e at =
     table-at rest (drop x.1 t) k e at
-    ∙ ap (λ u. Some (take e.1 u)) (drop-drop (counted (take k rest)) x.1 t)
+    ∙ ap (λ u. Some (take e.1 u)) (drop-drop (book_rows (take k rest)) x.1 t)
     ∙ ap (λ n. Some (slice t n e.1)) (sym (sum_by-cons (λ (p : ℕ × ℕ). p.1) x (take k rest)))
 
 -- ---- how many rows entries count
 
-pub counted-next : (entries : List (ℕ × ℕ)) (k : ℕ) (e : ℕ × ℕ) → slice_get entries k ≡ Some e → counted (take (k + 1) entries) ≡ counted (take k entries) + e.1
+pub counted-next : (entries : List (ℕ × ℕ)) (k : ℕ) (e : ℕ × ℕ) → slice_get entries k ≡ Some e → book_rows (take (k + 1) entries) ≡ book_rows (take k entries) + e.1
 counted-next entries k e at =
     let below = slice_get_within entries k e at in
-    ap counted (take_more entries k e below)
-    ∙ ap (λ (p : ℕ × ℕ). counted (take k entries ++ p ∷ [])) (get_or_from_slice_get entries k e e at)
+    ap book_rows (take_more entries k e below)
+    ∙ ap (λ (p : ℕ × ℕ). book_rows (take k entries ++ p ∷ [])) (get_or_from_slice_get entries k e e at)
     ∙ counted-push (take k entries) e
 
-counted-longer : (entries : List (ℕ × ℕ)) (k m : ℕ) → k ≤ m → counted (take k entries) ≤ counted (take m entries)
+counted-longer : (entries : List (ℕ × ℕ)) (k m : ℕ) → k ≤ m → book_rows (take k entries) ≤ book_rows (take m entries)
 counted-longer entries k m le =
-    omega (arith, ap counted (take-take k m entries le), sum_by-take-le (λ (p : ℕ × ℕ). p.1) (take m entries) k)
+    omega (arith, ap book_rows (take-take k m entries le), sum_by-take-le (λ (p : ℕ × ℕ). p.1) (take m entries) k)
 
 -- no batch ends within an entry
 pub ends-behind : (batches : List Batch) (entries : List (ℕ × ℕ)) (i k : ℕ) → EndsWithEntry batches entries i
-    → counted (take k entries) < rows_before batches i → counted (take (k + 1) entries) ≤ rows_before batches i
+    → book_rows (take k entries) < rows_before batches i → book_rows (take (k + 1) entries) ≤ rows_before batches i
 ends-behind batches entries i k ends before =
     elim (cases_lt k ends.entries) [
       | inl lt ↦ omega (arith, ends.same, counted-longer entries (k + 1) ends.entries (omega (arith, lt)))
@@ -77,9 +77,9 @@ ends-behind batches entries i k ends before =
 pub rows_before-next : (batches : List Batch) (i : ℕ) (b : Batch) → i < length batches → rows_before batches (i + 1) ≡ rows_before batches i + (get_or batches i b).rows
 rows_before-next batches i b below =
     let one = get_or batches i b in
-    ap (λ (l : List Batch). length (table_of l)) (take_more batches i b below)
+    ap (λ (l : List Batch). length (rows_of_batches l)) (take_more batches i b below)
     ∙ ap (λ (t : Table). length t) (table_of-push (take i batches) one)
-    ∙ length-append (table_of (take i batches)) (rows_of one)
+    ∙ length-append (rows_of_batches (take i batches)) (rows_of one)
     ∙ ap (λ n. rows_before batches i + n) (length-rows_of one)
 
 -- the same of shared batches
@@ -93,16 +93,16 @@ rows_before-shared batches i x n below at size =
 
 -- rows of the table are those of their batch
 pub slice-table : (batches : List Batch) (i used n : ℕ) (b : Batch) → i < length batches → used + n ≤ (get_or batches i b).rows
-    → slice (table_of batches) (rows_before batches i + used) n ≡ slice (rows_of (get_or batches i b)) used n
+    → slice (rows_of_batches batches) (rows_before batches i + used) n ≡ slice (rows_of (get_or batches i b)) used n
 slice-table batches i used n b below within =
     let one = get_or batches i b in
-    let front = table_of (take i batches) in
-    let rest = table_of (drop (i + 1) batches) in
+    let front = rows_of_batches (take i batches) in
+    let rest = rows_of_batches (drop (i + 1) batches) in
     let size = length-rows_of one in
-    let whole : table_of batches ≡ front ++ (rows_of one ++ rest) =
-    ap table_of (sym (take-append-drop i batches))
+    let whole : rows_of_batches batches ≡ front ++ (rows_of one ++ rest) =
+    ap rows_of_batches (sym (take-append-drop i batches))
     ∙ flat_map-append rows_of (take i batches) (drop i batches)
-    ∙ ap (λ (l : List Batch). front ++ table_of l) (drop_more batches i b below) in
+    ∙ ap (λ (l : List Batch). front ++ rows_of_batches l) (drop_more batches i b below) in
     ap (λ (t : Table). slice t (length front + used) n) whole
     ∙ ap (take n) (drop-append-add front (rows_of one ++ rest) used)
     ∙ ap (take n) (drop-append-le used (rows_of one) rest (omega (arith, within, size)))
@@ -221,9 +221,9 @@ are-lawful fields (x ∷ batches) all = ((all 0 x (omega arith)).1, are-lawful f
 record Begins (batches : List Batch) (entries : List (ℕ × ℕ)) (k : ℕ) (e : ℕ × ℕ) (p : Place) : Type 0 where
   pub entry : slice_get entries k ≡ Some e
   pub within : p.batch < length batches
-  pub same : passed batches p ≡ counted (take k entries)
-  pub place : IsPlace batches p
-  pub more : passed batches p < length (table_of batches) → HasMore batches p
+  pub same : passed batches p ≡ book_rows (take k entries)
+  pub place : IsExportPlace batches p
+  pub more : passed batches p < length (rows_of_batches batches) → HasMore batches p
 
 -- its batch has all of them
 entry-fits : (h : Storage) → IsConsistent h → (k : ℕ) (e : ℕ × ℕ) (p : Place) (d : Batch) → Begins (batches_of h) (book_of h) k e p → p.used + e.1 ≤ (get_or (batches_of h) p.batch d).rows
@@ -233,7 +233,7 @@ entry-fits h is k e p d at =
     let next = counted-next entries k e at.entry in
     let few = sum_by-take-le (λ (x : ℕ × ℕ). x.1) entries (k + 1) in
     let size = rows_before-next batches p.batch d at.within in
-    elim (cases_lt (passed batches p) (length (table_of batches))) [
+    elim (cases_lt (passed batches p) (length (rows_of_batches batches))) [
       | inl lt ↦
           let within = at.more lt in
           let behind = ends-behind batches entries (p.batch + 1) k (is.lawful.ends (p.batch + 1) (omega (arith, at.within))) (omega (arith, at.same, within)) in
@@ -253,8 +253,8 @@ tables h = map (λ (e : ℕ × Table). e.1) (show h).history
 entry-table : (h : Storage) (k : ℕ) (e : ℕ × ℕ) (p : Place) (d : Batch) (t : Table) → Begins (batches_of h) (book_of h) k e p → p.used + e.1 ≤ (get_or (batches_of h) p.batch d).rows
     → t ≡ slice (rows_of (get_or (batches_of h) p.batch d)) p.used e.1 → take (k + 1) (tables h) ≡ take k (tables h) ++ t ∷ []
 entry-table h k e p d t at fits is =
-    let all = table_of (batches_of h) in
-    let here : slice all (counted (take k (book_of h))) e.1 ≡ t =
+    let all = rows_of_batches (batches_of h) in
+    let here : slice all (book_rows (take k (book_of h))) e.1 ≡ t =
     ap (λ n. slice all n e.1) (sym at.same) ∙ slice-table (batches_of h) p.batch p.used e.1 d at.within fits ∙ sym is in
     take-next (tables h) k t (table-at (book_of h) all k e at.entry ∙ ap Some here)
 
@@ -265,7 +265,7 @@ pub record Lies (h : Storage) (k : ℕ) (e : ℕ × ℕ) (p : Place) (b : Batch)
   pub small : b.rows ≤ most_slots
   pub under : IsUnder (arc_value h.schema) b
   pub place : rows_before (batches_of h) p.batch + (p.used + e.1) ≤ rows_before (batches_of h) (p.batch + 1)
-  pub behind : rows_before (batches_of h) p.batch + (p.used + e.1) ≡ counted (take (k + 1) (book_of h))
+  pub behind : rows_before (batches_of h) p.batch + (p.used + e.1) ≡ book_rows (take (k + 1) (book_of h))
   pub table : (t : Table) → t ≡ slice (rows_of b) p.used e.1 → take (k + 1) (tables h) ≡ take k (tables h) ++ t ∷ []
 
 lies-there : (h : Storage) → IsConsistent h → (k : ℕ) (e : ℕ × ℕ) (p : Place) (x : Shared) → Begins (batches_of h) (book_of h) k e p → x ≡ get_or h.batches.items p.batch x → Lies h k e p (arc_value x)
@@ -291,10 +291,10 @@ lies-there h is k e p x at there =
 
 -- the batch that is found for an entry is such a one
 pub lies : (h : Storage) → IsConsistent h → (k : ℕ) (batches : List Shared) (e : Entry) (p q : Place) (x : Shared)
-    → batches ≡ h.batches.items → slice_get (book_of h) k ≡ Some (pair_of e) → passed (batches_of h) p ≡ counted (take k (book_of h))
-    → passed (map (λ (b : Shared). arc_value b) batches) q ≡ passed (map (λ (b : Shared). arc_value b) batches) p → IsPlace (map (λ (b : Shared). arc_value b) batches) q
+    → batches ≡ h.batches.items → slice_get (book_of h) k ≡ Some (pair_of e) → passed (batches_of h) p ≡ book_rows (take k (book_of h))
+    → passed (map (λ (b : Shared). arc_value b) batches) q ≡ passed (map (λ (b : Shared). arc_value b) batches) p → IsExportPlace (map (λ (b : Shared). arc_value b) batches) q
     → q.batch < length batches
-    → (passed (map (λ (b : Shared). arc_value b) batches) p < length (table_of (map (λ (b : Shared). arc_value b) batches)) → HasMore (map (λ (b : Shared). arc_value b) batches) q)
+    → (passed (map (λ (b : Shared). arc_value b) batches) p < length (rows_of_batches (map (λ (b : Shared). arc_value b) batches)) → HasMore (map (λ (b : Shared). arc_value b) batches) q)
     → x ≡ get_or h.batches.items q.batch x → Lies h k (pair_of e) q (arc_value x)
 lies h is k batches e p q x stored entry before same place within more there =
     let all = map (λ (b : Shared). arc_value b) batches in

@@ -16,7 +16,7 @@ use Rattle.table.specs.Cause.{full_in, texts_cause}
 use Rattle.arrays.specs.Batch.{Table, column}
 use Rattle.table.specs.History.{History, rows}
 use Rattle.table.specs.Lawful.{dictionary_in, texts_in}
-use Rattle.table.specs.Recoded.{dictionary_for, full_at, full_cause, grown, is_full}
+use Rattle.table.specs.Recoded.{dictionary_for, full_at, full_cause, grown, is_past_dictionary}
 use Rattle.table.specs.Stored.{is_text_field, stored_kind}
 use Rattle.table.specs.declared.refusal.Refusal.TheVariants.{TextsFull}
 use Rattle.table.proofs.CodeLemmas.{firsts-twice}
@@ -57,7 +57,7 @@ full-if true ts xs is = ap is_too_full is
 full-if false ts xs is = refl
 
 full-one : (t u : Table) (e : ℕ × FieldShape) (c : Seen) → Suits u e c
-    → is_full (texts_in t e, c) ≡ (is_text_field e.1 && is_too_full (firsts (texts_of (column (t ++ u) e.0))))
+    → is_past_dictionary (texts_in t e, c) ≡ (is_text_field e.1 && is_too_full (firsts (texts_of (column (t ++ u) e.0))))
 full-one t u e c suits =
     ap (λ b. b && is_too_full (grown (texts_in t e, c))) (sym (text-field u e c suits))
     ∙ full-if (is_text_field e.1) (grown (texts_in t e, c)) (firsts (texts_of (column (t ++ u) e.0))) (grown-one t u e c suits)

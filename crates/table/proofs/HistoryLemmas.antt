@@ -7,8 +7,8 @@ use Rattle.std.proofs.lemmas.List.Sums.{sum_by-cons}
 use Rattle.arrays.specs.Shape.{FieldShape}
 use Rattle.table.specs.Cause.{IsLegal, IsTableOf, cause}
 use Rattle.arrays.specs.Batch.{Table}
-use Rattle.table.specs.History.{History, book, cut, rows}
-use Rattle.table.specs.Lawful.{counted}
+use Rattle.table.specs.History.{History, book, history_from, rows}
+use Rattle.table.specs.Lawful.{book_rows}
 
 -- ---- one more pair
 
@@ -48,45 +48,45 @@ no_rows : (t : Table) → 0 ≡ length t → t ≡ []
 no_rows [] h = refl
 no_rows (row ∷ t) h = absurd (omega (arith, h))
 
-counted-cons : (e : ℕ × ℕ) (rest : List (ℕ × ℕ)) → counted (e ∷ rest) ≡ e.1 + counted rest
+counted-cons : (e : ℕ × ℕ) (rest : List (ℕ × ℕ)) → book_rows (e ∷ rest) ≡ e.1 + book_rows rest
 counted-cons e rest = sum_by-cons (λ (p : ℕ × ℕ). p.1) e rest
 
 -- what the rest of a book counts is what is left of the table
-left : (e : ℕ × ℕ) (rest : List (ℕ × ℕ)) (t : Table) → counted (e ∷ rest) ≡ length t → (e.1 ≤ length t) × (counted rest ≡ length (drop e.1 t))
+left : (e : ℕ × ℕ) (rest : List (ℕ × ℕ)) (t : Table) → book_rows (e ∷ rest) ≡ length t → (e.1 ≤ length t) × (book_rows rest ≡ length (drop e.1 t))
 left e rest t counts = (omega (arith, counts, counted-cons e rest), omega (arith, counts, counted-cons e rest, length-drop e.1 t))
 
-pub rows-cut : (entries : List (ℕ × ℕ)) (t : Table) → counted entries ≡ length t → rows (cut entries t) ≡ t
+pub rows-cut : (entries : List (ℕ × ℕ)) (t : Table) → book_rows entries ≡ length t → rows (history_from entries t) ≡ t
 rows-cut [] t counts = sym (no_rows t counts)
 rows-cut (e ∷ rest) t counts = ap (λ u. take e.1 t ++ u) (rows-cut rest (drop e.1 t) (left e rest t counts).1) ∙ take-append-drop e.1 t
 
-pub length-cut : (entries : List (ℕ × ℕ)) (t : Table) → length (cut entries t) ≡ length entries
+pub length-cut : (entries : List (ℕ × ℕ)) (t : Table) → length (history_from entries t) ≡ length entries
 length-cut [] t = refl
 length-cut (e ∷ rest) t = ap suc (length-cut rest (drop e.1 t))
 
-pub cut-push : (entries : List (ℕ × ℕ)) (t u : Table) (worker count : ℕ) → counted entries ≡ length t → count ≡ length u
-    → cut (entries ++ (worker, count) ∷ []) (t ++ u) ≡ cut entries t ++ (worker, u) ∷ []
+pub cut-push : (entries : List (ℕ × ℕ)) (t u : Table) (worker count : ℕ) → book_rows entries ≡ length t → count ≡ length u
+    → history_from (entries ++ (worker, count) ∷ []) (t ++ u) ≡ history_from entries t ++ (worker, u) ∷ []
 cut-push [] t u worker count counts size =
-    ap (λ s. cut ((worker, count) ∷ []) (s ++ u)) (no_rows t counts)
+    ap (λ s. history_from ((worker, count) ∷ []) (s ++ u)) (no_rows t counts)
     ∙ ap (λ (s : Table). (worker, s) ∷ []) (take_all count u (omega (arith, size)))
 cut-push (e ∷ rest) t u worker count counts size =
     let there = left e rest t counts in
-    ap (λ (s : Table). (e.0, s) ∷ cut (rest ++ (worker, count) ∷ []) (drop e.1 (t ++ u))) (take-append-le e.1 t u there.0)
-    ∙ ap (λ (s : Table). (e.0, take e.1 t) ∷ cut (rest ++ (worker, count) ∷ []) s) (drop-append-le e.1 t u there.0)
+    ap (λ (s : Table). (e.0, s) ∷ history_from (rest ++ (worker, count) ∷ []) (drop e.1 (t ++ u))) (take-append-le e.1 t u there.0)
+    ∙ ap (λ (s : Table). (e.0, take e.1 t) ∷ history_from (rest ++ (worker, count) ∷ []) s) (drop-append-le e.1 t u there.0)
     ∙ ap (λ (h : History). (e.0, take e.1 t) ∷ h) (cut-push rest (drop e.1 t) u worker count there.1 size)
 
-pub book-cut : (entries : List (ℕ × ℕ)) (t : Table) → counted entries ≡ length t → book (cut entries t) ≡ entries
+pub book-cut : (entries : List (ℕ × ℕ)) (t : Table) → book_rows entries ≡ length t → book (history_from entries t) ≡ entries
 book-cut [] t counts = refl
 book-cut (e ∷ rest) t counts =
     let there = left e rest t counts in
-    ap (λ n. (e.0, n) ∷ book (cut rest (drop e.1 t))) (length-take-le e.1 t there.0)
+    ap (λ n. (e.0, n) ∷ book (history_from rest (drop e.1 t))) (length-take-le e.1 t there.0)
     ∙ ap (λ b. e ∷ b) (book-cut rest (drop e.1 t) there.1)
   where
     length-take-le : (n : ℕ) (t : Table) → n ≤ length t → length (take n t) ≡ n
     length-take-le n t within = omega (arith, within, ap length (take-append-drop n t), length-append (take n t) (drop n t), length-drop n t)
 
-pub cut-book : (h : History) → cut (book h) (rows h) ≡ h
+pub cut-book : (h : History) → history_from (book h) (rows h) ≡ h
 cut-book [] = refl
 cut-book (e ∷ h) =
-    ap (λ (t : Table). (e.0, t) ∷ cut (book h) (drop (length e.1) (e.1 ++ rows h))) (take-append_seam e.1 (rows h))
-    ∙ ap (λ (t : Table). e ∷ cut (book h) t) (drop-append_seam e.1 (rows h))
+    ap (λ (t : Table). (e.0, t) ∷ history_from (book h) (drop (length e.1) (e.1 ++ rows h))) (take-append_seam e.1 (rows h))
+    ∙ ap (λ (t : Table). e ∷ history_from (book h) t) (drop-append_seam e.1 (rows h))
     ∙ ap (λ (g : History). e ∷ g) (cut-book h)

@@ -31,10 +31,10 @@ use Rattle.compaction.proofs.GroupLemmas.{groups-few, groups-some, groups-togeth
 use Rattle.table.specs.Cause.{IsLegal, null_cause, null_in, null_row}
 use Rattle.table.specs.Compacted.{IsCompacted}
 use Rattle.table.specs.Storage.{IsConsistent, IsSame, IsWith, batches_of, book_of, dictionaries_in, pieces_in, show}
-use Rattle.table.specs.History.{cut}
-use Rattle.table.specs.Lawful.{EndsWithEntry, IsStored, LawfulTable, counted, dictionaries_of, dictionary_in, table_of, texts_in}
+use Rattle.table.specs.History.{history_from}
+use Rattle.table.specs.Lawful.{EndsWithEntry, IsStored, LawfulTable, book_rows, dictionaries_of, dictionary_in, rows_of_batches, texts_in}
 use Rattle.compaction.specs.Statistics.{AreStatsOf}
-use Rattle.table.specs.Ready.{AreTexts, BeginWithTexts, all_texts}
+use Rattle.table.specs.Ready.{ArePools, BeginWithTexts, column_texts}
 use Rattle.table.specs.Stored.{is_text_field}
 use Rattle.table.specs.declared.storage.Storage.{Storage}
 use Rattle.table.specs.declared.refusal.Refusal.TheVariants.{NullInNonNullable}
@@ -66,7 +66,7 @@ dictionaries-all fields t = dictionaries-from t 0 fields
 
 pub storage-dictionaries : (h : Storage) → IsConsistent h → AllZip IsDictionary (arc_value h.schema) (dictionaries_in h)
 storage-dictionaries h is =
-    subst (AllZip IsDictionary (arc_value h.schema)) (sym is.lawful.texts) (dictionaries-all (arc_value h.schema) (table_of (batches_of h)))
+    subst (AllZip IsDictionary (arc_value h.schema)) (sym is.lawful.texts) (dictionaries-all (arc_value h.schema) (rows_of_batches (batches_of h)))
 
 pub storage-under : (h : Storage) → IsConsistent h → All (IsUnder (arc_value h.schema) (dictionaries_in h)) (batches_of h)
 storage-under h is = λ i b below.
@@ -215,14 +215,14 @@ null-groups fields m tables (g ∷ groups) are all =
 abbrev tables_of : List Batch → List Table
 tables_of batches = map rows_of batches
 
-tables-together : (batches : List Batch) → together (tables_of batches) ≡ table_of batches
+tables-together : (batches : List Batch) → together (tables_of batches) ≡ rows_of_batches batches
 tables-together batches = flat_map-map (λ (t : Table). t) rows_of batches
 
-front-together : (batches : List Batch) (i : ℕ) → together (take i (tables_of batches)) ≡ table_of (take i batches)
+front-together : (batches : List Batch) (i : ℕ) → together (take i (tables_of batches)) ≡ rows_of_batches (take i batches)
 front-together batches i = ap together (take-map rows_of i batches) ∙ tables-together (take i batches)
 
 module _ (fields : List FieldShape) (m : ℕ) (olds news : List Batch) (groups : AreGroups fields m (tables_of olds) (tables_of news)) where
-  pub same-table : table_of news ≡ table_of olds
+  pub same-table : rows_of_batches news ≡ rows_of_batches olds
   same-table = sym (tables-together news) ∙ groups-together fields m (tables_of olds) (tables_of news) groups ∙ tables-together olds
 
   ends-joined : (entries : List (ℕ × ℕ)) → ((i : ℕ) → i ≤ length olds → EndsWithEntry olds entries i) → (i : ℕ) → i ≤ length news → EndsWithEntry news entries i
@@ -274,9 +274,9 @@ module _ (h other : Storage) (m : ℕ) (batches : List (Arc Batch Global)) (thei
 
   history : (show other).history ≡ (show h).history
   history =
-      ap (λ (e : List (ℕ × ℕ)). cut e (table_of (batches_of other))) with.book
-      ∙ ap (λ (b : List Batch). cut (book_of h) (table_of b)) batches_are
-      ∙ ap (cut (book_of h)) (same-table (arc_value h.schema) m (batches_of h) (map arc_value batches) groups)
+      ap (λ (e : List (ℕ × ℕ)). history_from e (rows_of_batches (batches_of other))) with.book
+      ∙ ap (λ (b : List Batch). history_from (book_of h) (rows_of_batches b)) batches_are
+      ∙ ap (history_from (book_of h)) (same-table (arc_value h.schema) m (batches_of h) (map arc_value batches) groups)
 
   pub joined-storage : IsConsistent other
   joined-storage = record {
@@ -287,7 +287,7 @@ module _ (h other : Storage) (m : ℕ) (batches : List (Arc Batch Global)) (thei
         (subst (λ (s : List ColumnStats). LawfulTable (arc_value h.schema) (map arc_value batches) (pieces_of theirs) s (dictionaries_in other) (book_of other)) (sym with.stats)
         (subst (λ (d : List (Option Seen)). LawfulTable (arc_value h.schema) (map arc_value batches) (pieces_of theirs) (arc_value h.stats).items d (book_of other)) (sym with.dictionaries)
         (subst (λ (e : List (ℕ × ℕ)). LawfulTable (arc_value h.schema) (map arc_value batches) (pieces_of theirs) (arc_value h.stats).items (dictionaries_in h) e) (sym with.book) lawful)))));
-    rows = with.rows ∙ is.rows ∙ ap counted (sym with.book);
+    rows = with.rows ∙ is.rows ∙ ap book_rows (sym with.book);
     legal =
         subst (λ (f : List FieldShape). IsLegal f (show other).history) (sym with.schema)
         (subst (IsLegal (arc_value h.schema)) (sym history) is.legal);
@@ -300,7 +300,7 @@ module _ (h other : Storage) (m : ℕ) (batches : List (Arc Batch Global)) (thei
     groups = subst (λ (b : List Batch). AreGroups (arc_value h.schema) m (tables_of (batches_of h)) (tables_of b)) (sym batches_are) groups;
   }
 
-pub compacted-table : (h other : Storage) (m : ℕ) → IsCompacted m (show h) (show other) → table_of (batches_of other) ≡ table_of (batches_of h)
+pub compacted-table : (h other : Storage) (m : ℕ) → IsCompacted m (show h) (show other) → rows_of_batches (batches_of other) ≡ rows_of_batches (batches_of h)
 compacted-table h other m is = same-table (arc_value h.schema) m (batches_of h) (batches_of other) is.groups
 
 -- ---- texts
@@ -309,26 +309,26 @@ all-begin : (texts : List (List (List ℕ))) → AllZip IsPrefix texts texts
 all-begin [] = tt
 all-begin (t ∷ texts) = (prefix_self t, all-begin texts)
 
-pub texts-begin : (h : Storage) (t : Table) (pools : List (List (List ℕ))) → AreTexts h t pools → BeginWithTexts h t pools
-texts-begin h t pools are = subst (AllZip IsPrefix (all_texts h t)) (sym are) (all-begin (all_texts h t))
+pub texts-begin : (h : Storage) (t : Table) (pools : List (List (List ℕ))) → ArePools h t pools → BeginWithTexts h t pools
+texts-begin h t pools are = subst (AllZip IsPrefix (column_texts h t)) (sym are) (all-begin (column_texts h t))
 
 -- the texts are those of the same rows
-pub texts-same : (h other : Storage) (pools : List (List (List ℕ))) → (arc_value other.schema ≡ arc_value h.schema) × (table_of (batches_of other) ≡ table_of (batches_of h)) → AreTexts h (table_of (batches_of h)) pools → AreTexts other (table_of (batches_of other)) pools
+pub texts-same : (h other : Storage) (pools : List (List (List ℕ))) → (arc_value other.schema ≡ arc_value h.schema) × (rows_of_batches (batches_of other) ≡ rows_of_batches (batches_of h)) → ArePools h (rows_of_batches (batches_of h)) pools → ArePools other (rows_of_batches (batches_of other)) pools
 texts-same h other pools same are =
     are
     ∙ ap (λ (t : Table). map (texts_in t) (enumerate_from 0 (arc_value h.schema))) (sym same.1)
-    ∙ ap (λ (f : List FieldShape). map (texts_in (table_of (batches_of other))) (enumerate_from 0 f)) (sym same.0)
+    ∙ ap (λ (f : List FieldShape). map (texts_in (rows_of_batches (batches_of other))) (enumerate_from 0 f)) (sym same.0)
 
 -- whether the change was committed or not
-pub after-commit : {L : Type 0} (r : Result L NoMemory) (h next new : Storage) (olds pools : Vec (List (List ℕ)) Global) → IsConsistent h → AreTexts h (table_of (batches_of h)) olds.items
-    → IsConsistent next → (arc_value next.schema ≡ arc_value h.schema) × (table_of (batches_of next) ≡ table_of (batches_of h))
-    → OnOk r (IsSame next new) → OnOk r (pools ≡ olds) → OnErr r (new ≡ h) → OnErr r (AreTexts h (table_of (batches_of h)) pools.items)
-    → IsConsistent new × AreTexts new (table_of (batches_of new)) pools.items
+pub after-commit : {L : Type 0} (r : Result L NoMemory) (h next new : Storage) (olds pools : Vec (List (List ℕ)) Global) → IsConsistent h → ArePools h (rows_of_batches (batches_of h)) olds.items
+    → IsConsistent next → (arc_value next.schema ≡ arc_value h.schema) × (rows_of_batches (batches_of next) ≡ rows_of_batches (batches_of h))
+    → OnOk r (IsSame next new) → OnOk r (pools ≡ olds) → OnErr r (new ≡ h) → OnErr r (ArePools h (rows_of_batches (batches_of h)) pools.items)
+    → IsConsistent new × ArePools new (rows_of_batches (batches_of new)) pools.items
 after-commit (Ok seen) h next new olds pools is are stands same committed kept unchanged back = (
   Storage-same next new committed stands,
-  texts-same h new pools.items (committed.schema ∙ same.0, ap table_of committed.batches ∙ same.1) (ap (λ (v : Vec (List (List ℕ)) Global). v.items) kept ∙ are),
+  texts-same h new pools.items (committed.schema ∙ same.0, ap rows_of_batches committed.batches ∙ same.1) (ap (λ (v : Vec (List (List ℕ)) Global). v.items) kept ∙ are),
 )
 after-commit (Err e) h next new olds pools is are stands same committed kept unchanged back = (
   subst IsConsistent (sym unchanged) is,
-  subst (λ (x : Storage). AreTexts x (table_of (batches_of x)) pools.items) (sym unchanged) back,
+  subst (λ (x : Storage). ArePools x (rows_of_batches (batches_of x)) pools.items) (sym unchanged) back,
 )

@@ -15,7 +15,7 @@ use Rattle.compaction.proofs.JoinedLemmas.{all_zip-all}
 use Rattle.compaction.specs.Statistics.{AreStatsOf}
 use Rattle.compaction.specs.Under.{IsUnder, NamesFront}
 use Rattle.table.specs.Cause.{null_cause}
-use Rattle.table.specs.Lawful.{IsStored, LawfulTable, dictionaries_of, table_of}
+use Rattle.table.specs.Lawful.{IsStored, LawfulTable, dictionaries_of, rows_of_batches}
 use Rattle.table.specs.Moved.{AreMoved, IsMoved, with_last}
 
 -- ---- lists
@@ -89,12 +89,12 @@ module _ (fields : List FieldShape) (dictionaries : List (Option Seen)) where
 
   -- ---- what stays
 
-  pub table-moved : (batches others : List Batch) → AllZip Moved batches others → table_of others ≡ table_of batches
+  pub table-moved : (batches others : List Batch) → AllZip Moved batches others → rows_of_batches others ≡ rows_of_batches batches
   table-moved [] [] all = refl
   table-moved [] (c ∷ others) all = absurd all
   table-moved (b ∷ batches) [] all = absurd all
   table-moved (b ∷ batches) (c ∷ others) all =
-      ap (λ (t : Table). t ++ table_of others) all.0.rows ∙ ap (λ (t : Table). rows_of b ++ t) (table-moved batches others all.1)
+      ap (λ (t : Table). t ++ rows_of_batches others) all.0.rows ∙ ap (λ (t : Table). rows_of b ++ t) (table-moved batches others all.1)
 
   pub tables-moved : (batches others : List Batch) → AllZip Moved batches others → map rows_of others ≡ map rows_of batches
   tables-moved [] [] all = refl

@@ -19,10 +19,10 @@ use Rattle.compaction.specs.Under.{pieces_of}
 use Rattle.table.specs.Cause.{IsLegal, batch_cause, cause, difference, is_book_full, is_table_full, null_cause, texts_cause}
 use Rattle.table.specs.Contents.{Contents, admitted}
 use Rattle.table.specs.Storage.{IsConsistent, IsPut, IsSame, IsWith, batches_of, book_of, dictionaries_in, pieces_in, show}
-use Rattle.table.specs.History.{History, cut, rows}
-use Rattle.table.specs.Lawful.{LawfulTable, counted, dictionaries_of, table_of, texts_in}
+use Rattle.table.specs.History.{History, history_from, rows}
+use Rattle.table.specs.Lawful.{LawfulTable, book_rows, dictionaries_of, rows_of_batches, texts_in}
 use Rattle.table.specs.Moved.{IsMoved, with_last}
-use Rattle.table.specs.Ready.{AreTexts, IsReady}
+use Rattle.table.specs.Ready.{ArePools, IsAdditionOf}
 use Rattle.table.specs.declared.change.Addition.{Addition}
 use Rattle.table.specs.declared.storage.Storage.{Storage}
 use Rattle.table.specs.declared.refusal.Refusal.TheVariants.{BookFull, SchemaDiffers, TableFull}
@@ -71,7 +71,7 @@ Storage-same h g same is = record {
       (subst (λ (s : List ColumnStats). LawfulTable (arc_value h.schema) (batches_of h) (pieces_in h) s (dictionaries_in g) (book_of g)) (sym same.stats)
       (subst (λ (d : List (Option Seen)). LawfulTable (arc_value h.schema) (batches_of h) (pieces_in h) (arc_value h.stats).items d (book_of g)) (sym same.dictionaries)
       (subst (λ (e : List (ℕ × ℕ)). LawfulTable (arc_value h.schema) (batches_of h) (pieces_in h) (arc_value h.stats).items (dictionaries_in h) e) (sym same.book) is.lawful)))));
-  rows = same.rows ∙ is.rows ∙ ap counted (sym same.book);
+  rows = same.rows ∙ is.rows ∙ ap book_rows (sym same.book);
   legal =
       subst (λ (f : List FieldShape). IsLegal f (show g).history) (sym same.schema)
       (subst (λ (s : Contents). IsLegal (arc_value h.schema) s.history) (sym (show-same h g same)) is.legal);
@@ -80,14 +80,14 @@ Storage-same h g same is = record {
     show-same : (h g : Storage) → IsSame h g → show g ≡ show h
     show-same h g same = λ i. record {
       fields = same.schema i;
-      history = cut (same.book i) (table_of (same.batches i));
+      history = history_from (same.book i) (rows_of_batches (same.batches i));
       batches = map rows_of (same.batches i);
     }
 
 pub show-same : (h g : Storage) → IsSame h g → show g ≡ show h
 show-same h g same = λ i. record {
   fields = same.schema i;
-  history = cut (same.book i) (table_of (same.batches i));
+  history = history_from (same.book i) (rows_of_batches (same.batches i));
   batches = map rows_of (same.batches i);
 }
 
@@ -144,7 +144,7 @@ module _ (h s r : Storage) (p q : Addition) (shared : IsSame h s) (reserved : Is
 
 -- ---- one batch more
 
-module _ (h g : Storage) (b : Batch) (worker : ℕ) (p : Addition) (is : IsConsistent h) (ready : IsReady h worker b p) (put : IsPut p h g) where
+module _ (h g : Storage) (b : Batch) (worker : ℕ) (p : Addition) (is : IsConsistent h) (ready : IsAdditionOf h worker b p) (put : IsPut p h g) where
   same_cause : cause (arc_value h.schema) (show h).history (rows_of b) ≡ None
   same_cause = cause-none (arc_value h.schema) (show h).history b ready.allowed
 
@@ -175,17 +175,17 @@ module _ (h g : Storage) (b : Batch) (worker : ℕ) (p : Addition) (is : IsConsi
       all_zip-push (IsMoved fields words) (batches_of h) (with_last (batches_of h) (map arc_value p.moved.items)) (arc_value p.batch) (arc_value p.batch) ready.moved.same
       (moved-self fields words (arc_value p.batch) (record { same = ready.stored.same; lawful = ready.stored.lawful; fronts = ready.front }))
 
-  table : table_of (batches_of g) ≡ table_of (batches_of h) ++ rows_of b
-  table = ap table_of put.batches ∙ table-moved fields words pushed after moved ∙ table_of-push (batches_of h) (arc_value p.batch) ∙ ap (λ (t : Table). table_of (batches_of h) ++ t) ready.rows
+  table : rows_of_batches (batches_of g) ≡ rows_of_batches (batches_of h) ++ rows_of b
+  table = ap rows_of_batches put.batches ∙ table-moved fields words pushed after moved ∙ table_of-push (batches_of h) (arc_value p.batch) ∙ ap (λ (t : Table). rows_of_batches (batches_of h) ++ t) ready.rows
 
-  few : counted (book_of h) + (arc_value p.batch).rows ≤ 2 ^ 40
+  few : book_rows (book_of h) + (arc_value p.batch).rows ≤ 2 ^ 40
   few =
       omega (arith, free.rows, size, ap (λ (t : Table). length t) ready.rows, is.lawful.counts, ap (λ (t : Table). length t) (rows-shown h is))
 
   short : length (book_of h) + 1 < 2 ^ 32
   short =
       elim (Rattle.std.proofs.Math.Nat.eq-or-lt_of_le below) [
-        | Rattle.std.proofs.Common.inl eq ↦ absurd (free.entries (length-cut (book_of h) (table_of (batches_of h)) ∙ omega (arith, eq)))
+        | Rattle.std.proofs.Common.inl eq ↦ absurd (free.entries (length-cut (book_of h) (rows_of_batches (batches_of h)) ∙ omega (arith, eq)))
         | Rattle.std.proofs.Common.inr lt ↦ omega (arith, lt)
       ]
     where
@@ -194,7 +194,7 @@ module _ (h g : Storage) (b : Batch) (worker : ℕ) (p : Addition) (is : IsConsi
 
   lawful : LawfulTable (arc_value h.schema) after (pieces_in h ++ ready.piece ∷ []) (arc_value p.stats).items (map (option_map arc_value) p.dictionaries.items) (book_of h ++ (worker, (arc_value p.batch).rows) ∷ [])
   lawful =
-      let t = table_of (batches_of h) in
+      let t = rows_of_batches (batches_of h) in
       Lawful-moved fields words pushed after (pieces_in h ++ ready.piece ∷ []) (arc_value p.stats).items (book_of h ++ (worker, (arc_value p.batch).rows) ∷ []) moved
       (Lawful-push (arc_value h.schema) (batches_of h) (pieces_in h) (arc_value h.stats).items (dictionaries_in h) (book_of h) is.lawful
       (arc_value p.batch) ready.piece (arc_value p.stats).items (map (option_map arc_value) p.dictionaries.items) worker (arc_value p.batch).rows
@@ -204,13 +204,13 @@ module _ (h g : Storage) (b : Batch) (worker : ℕ) (p : Addition) (is : IsConsi
       (ready.texts ∙ ap (λ (u : Table). dictionaries_of (arc_value h.schema) (t ++ u)) (sym ready.rows))
       ready.front size few short)
 
-  history : cut (book_of h ++ (worker, (arc_value p.batch).rows) ∷ []) (table_of (batches_of h) ++ rows_of b) ≡ (show h).history ++ (worker, rows_of b) ∷ []
-  history = cut-push (book_of h) (table_of (batches_of h)) (rows_of b) worker (arc_value p.batch).rows is.lawful.counts (size ∙ ap (λ (t : Table). length t) ready.rows)
+  history : history_from (book_of h ++ (worker, (arc_value p.batch).rows) ∷ []) (rows_of_batches (batches_of h) ++ rows_of b) ≡ (show h).history ++ (worker, rows_of b) ∷ []
+  history = cut-push (book_of h) (rows_of_batches (batches_of h)) (rows_of b) worker (arc_value p.batch).rows is.lawful.counts (size ∙ ap (λ (t : Table). length t) ready.rows)
 
   pub put-shows : show g ≡ admitted (show h) worker b
   put-shows =
       let cuts : (show g).history ≡ (show h).history ++ (worker, rows_of b) ∷ [] =
-      ap (λ (e : List (ℕ × ℕ)). cut e (table_of (batches_of g))) book_is ∙ ap (λ (t : Table). cut (book_of h ++ (worker, (arc_value p.batch).rows) ∷ []) t) table ∙ history in
+      ap (λ (e : List (ℕ × ℕ)). history_from e (rows_of_batches (batches_of g))) book_is ∙ ap (λ (t : Table). history_from (book_of h ++ (worker, (arc_value p.batch).rows) ∷ []) t) table ∙ history in
       let tables : (show g).batches ≡ (show h).batches ++ rows_of b ∷ [] =
       ap (λ (l : List Batch). map rows_of l) put.batches ∙ tables-moved fields words pushed after moved ∙ map-append rows_of (batches_of h) (arc_value p.batch ∷ []) ∙ ap (λ (t : Table). map rows_of (batches_of h) ++ t ∷ []) ready.rows in
       λ i. record { fields = put.schema i; history = cuts i; batches = tables i }
@@ -224,15 +224,15 @@ module _ (h g : Storage) (b : Batch) (worker : ℕ) (p : Addition) (is : IsConsi
         (subst (λ (s : List ColumnStats). LawfulTable (arc_value h.schema) after (pieces_in h ++ ready.piece ∷ []) s (dictionaries_in g) (book_of g)) (sym (ap (λ (v : Rattle.std.specs.declared.vec.Vec.Vec ColumnStats Rattle.std.specs.declared.alloc.Global.Global). v.items) put.stats))
         (subst (λ (d : List (Option Seen)). LawfulTable (arc_value h.schema) after (pieces_in h ++ ready.piece ∷ []) (arc_value p.stats).items d (book_of g)) (sym put.dictionaries)
         (subst (λ (e : List (ℕ × ℕ)). LawfulTable (arc_value h.schema) after (pieces_in h ++ ready.piece ∷ []) (arc_value p.stats).items (map (option_map arc_value) p.dictionaries.items) e) (sym book_is) lawful)))));
-    rows = put.rows ∙ ap (λ n. n + (arc_value p.batch).rows) is.rows ∙ sym (Rattle.table.proofs.TableLemmas.counted-push (book_of h) (worker, (arc_value p.batch).rows)) ∙ ap counted (sym book_is);
+    rows = put.rows ∙ ap (λ n. n + (arc_value p.batch).rows) is.rows ∙ sym (Rattle.table.proofs.TableLemmas.counted-push (book_of h) (worker, (arc_value p.batch).rows)) ∙ ap book_rows (sym book_is);
     legal =
         subst (λ (f : List FieldShape). IsLegal f (show g).history) (sym put.schema)
         (subst (λ (s : Contents). IsLegal (arc_value h.schema) s.history) (sym put-shows)
         (IsLegal-push (arc_value h.schema) (show h).history (worker, rows_of b) is.legal ready.typed same_cause));
   }
 
-  pub put-texts : (pools : List (List (List ℕ))) → AreTexts h (table_of (batches_of h) ++ rows_of b) pools → AreTexts g (table_of (batches_of g)) pools
+  pub put-texts : (pools : List (List (List ℕ))) → ArePools h (rows_of_batches (batches_of h) ++ rows_of b) pools → ArePools g (rows_of_batches (batches_of g)) pools
   put-texts pools are =
       are
       ∙ ap (λ (t : Table). map (texts_in t) (enumerate_from 0 (arc_value h.schema))) (sym table)
-      ∙ ap (λ (f : List FieldShape). map (texts_in (table_of (batches_of g))) (enumerate_from 0 f)) (sym put.schema)
+      ∙ ap (λ (f : List FieldShape). map (texts_in (rows_of_batches (batches_of g))) (enumerate_from 0 f)) (sym put.schema)

@@ -11,10 +11,10 @@ use Rattle.table.specs.Cause.{batch_cause, difference, early_cause, null_cause}
 use Rattle.group.specs.Columns.{AreJoined, AreTheirs}
 use Rattle.table.specs.Storage.{IsConsistent, batches_of, book_of, dictionaries_in, pieces_in, show}
 use Rattle.compaction.specs.Under.{IsDictionary, IsUnder, NamesFront, pieces_of}
-use Rattle.table.specs.Lawful.{dictionaries_of, table_of, texts_in}
+use Rattle.table.specs.Lawful.{dictionaries_of, rows_of_batches, texts_in}
 use Rattle.compaction.specs.Statistics.{AreStatsOf}
 use Rattle.table.specs.Moved.{AreMoved}
-use Rattle.table.specs.Ready.{AreTexts, IsReady}
+use Rattle.table.specs.Ready.{ArePools, IsAdditionOf}
 use Rattle.table.specs.Recoded.{dictionary_for, full_cause, grown, stored_seen}
 use Rattle.table.specs.declared.change.Addition.{Addition}
 use Rattle.table.specs.declared.storage.Storage.{Storage}
@@ -39,12 +39,12 @@ reported (Err x) e o p same found is = elim found [ inl h ↦ inl (same ∙ h) |
 
 module _ (h : Storage) (b : Batch) (is : IsConsistent h) (early : early_cause (arc_value h.schema) (show h).history b ≡ None)
     (lawful : batch_fault b.fields b.rows b.columns ≡ None) (typed : AreTyped b.columns)
-    (pools : List (List (List ℕ))) (are : AreTexts h (table_of (batches_of h)) pools) (columns : List Seen) (same : columns ≡ b.columns) where
+    (pools : List (List (List ℕ))) (are : ArePools h (rows_of_batches (batches_of h)) pools) (columns : List Seen) (same : columns ≡ b.columns) where
   abbrev fields : List FieldShape
   fields = arc_value h.schema
 
   abbrev before : Table
-  before = table_of (batches_of h)
+  before = rows_of_batches (batches_of h)
 
   abbrev places : List (ℕ × FieldShape)
   places = enumerate_from 0 (arc_value h.schema)
@@ -126,7 +126,7 @@ module _ (h : Storage) (b : Batch) (is : IsConsistent h) (early : early_cause (a
       → AreJoined (arc_value h.stats).items piece (arc_value p.stats).items
       → AreMoved fields (map (option_map arc_value) p.dictionaries.items) (batches_of h) (map arc_value p.moved.items)
       → p.book ≡ book_of h ++ (worker, b.rows) ∷ []
-      → IsReady h worker b p
+      → IsAdditionOf h worker b p
   ready worker p piece fits of_fields size of_columns words pieces theirs joins moved book =
       let stored = map stored_seen (zip pools columns) in
       let under : AllZip (Kept (rows_of b)) places (arc_value p.batch).columns = subst (AllZip (Kept (rows_of b)) places) (sym of_columns) kept in

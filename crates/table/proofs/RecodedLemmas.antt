@@ -22,7 +22,7 @@ use Rattle.pool.proofs.PlaceLemmas.{position_found}
 use Rattle.pool.proofs.PrefixLemmas.{prefix_take}
 use Rattle.std.specs.Bool.{then_some}
 use Rattle.arrays.specs.First.{first}
-use Rattle.table.specs.Recoded.{coded, dictionary_for, full_at, full_cause, grown, is_full, stored_seen}
+use Rattle.table.specs.Recoded.{coded, dictionary_for, full_at, full_cause, grown, is_past_dictionary, stored_seen}
 use Rattle.table.specs.declared.refusal.Refusal.{Refusal}
 use Rattle.table.specs.declared.refusal.Refusal.TheVariants.{TextsFull}
 use Rattle.table.proofs.FrontLemmas.{prefix_self}
@@ -187,7 +187,7 @@ module _ (olds : List (List (List ℕ))) (columns : List Seen) (same : length ol
           ap (λ l. l ++ y ∷ []) is ∙ ap (λ v. map f (take k pairs) ++ v ∷ []) value
           ∙ sym (map-append f (take k pairs) ((pool, c) ∷ [])) ∙ ap (map f) (sym pairs-more)
 
-      fits-more : is_full (pool, c) ≡ false → full_among 0 (take (k + 1) pairs) ≡ None
+      fits-more : is_past_dictionary (pool, c) ≡ false → full_among 0 (take (k + 1) pairs) ≡ None
       fits-more few =
           ap (full_among 0) pairs-more ∙ full_among-append (take k pairs) ((pool, c) ∷ []) are.fits
           ∙ ap (λ b. first (then_some b (TextsFull (0 + length (take k pairs))) ∷ [])) few
@@ -198,7 +198,7 @@ module _ (olds : List (List (List ℕ))) (columns : List Seen) (same : length ol
           (subst (λ p. IsPrefix p next) (old-at ∙ get_or_default olds k pool next (omega (arith, same, below))) begins)
 
       pub AreStored-more : (next : List (List ℕ)) (column : Seen) (dictionary : Option Seen) → column ≡ stored_seen (pool, c)
-          → dictionary ≡ dictionary_for (grown (pool, c), c) → next ≡ grown (pool, c) → is_full (pool, c) ≡ false → IsPrefix pool next
+          → dictionary ≡ dictionary_for (grown (pool, c), c) → next ≡ grown (pool, c) → is_past_dictionary (pool, c) ≡ false → IsPrefix pool next
           → AreStored olds columns (k + 1) (set pools k next) (stored ++ column ∷ []) (dictionaries ++ dictionary ∷ [])
       AreStored-more next column dictionary column_is dictionary_is next_is few begins = record {
         columns_are = mapped-more stored_seen stored column are.columns_are column_is;
@@ -208,7 +208,7 @@ module _ (olds : List (List (List ℕ))) (columns : List Seen) (same : length ol
         begun = pools-begun next begins;
       }
 
-      pub full-here : is_full (pool, c) ≡ true → full_cause olds columns ≡ Some (TextsFull k)
+      pub full-here : is_past_dictionary (pool, c) ≡ true → full_cause olds columns ≡ Some (TextsFull k)
       unfolding full_cause
       full-here many =
           ap (full_among 0) (sym (take-append-drop k pairs))

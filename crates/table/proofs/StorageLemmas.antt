@@ -15,23 +15,23 @@ use Rattle.group.specs.declared.stats.ColumnStats.{ColumnStats}
 use Rattle.std.proofs.lemmas.List.{get_or-map, length-map}
 use Rattle.table.specs.Storage.{IsConsistent, batches_of, book_of, pieces_in, show}
 use Rattle.table.specs.History.{book, rows}
-use Rattle.table.specs.Lawful.{dictionaries_of, table_of}
+use Rattle.table.specs.Lawful.{dictionaries_of, rows_of_batches}
 use Rattle.compaction.specs.Statistics.{AreStatsOf}
 use Rattle.table.specs.declared.storage.Storage.{Storage}
 use Rattle.table.proofs.HistoryLemmas.{book-cut, length-cut, rows-cut}
 
 -- the rows of its history are those of its batches
-pub rows-shown : (h : Storage) → IsConsistent h → rows (show h).history ≡ table_of (batches_of h)
-rows-shown h is = rows-cut (book_of h) (table_of (batches_of h)) is.lawful.counts
+pub rows-shown : (h : Storage) → IsConsistent h → rows (show h).history ≡ rows_of_batches (batches_of h)
+rows-shown h is = rows-cut (book_of h) (rows_of_batches (batches_of h)) is.lawful.counts
 
 pub count-shown : (h : Storage) → IsConsistent h → h.rows ≡ length (rows (show h).history)
 count-shown h is = is.rows ∙ is.lawful.counts ∙ ap (λ (t : Table). length t) (sym (rows-shown h is))
 
 pub length-book : (h : Storage) → length (show h).history ≡ length (book_of h)
-length-book h = length-cut (book_of h) (table_of (batches_of h))
+length-book h = length-cut (book_of h) (rows_of_batches (batches_of h))
 
 pub book-shown : (h : Storage) → IsConsistent h → book (show h).history ≡ book_of h
-book-shown h is = book-cut (book_of h) (table_of (batches_of h)) is.lawful.counts
+book-shown h is = book-cut (book_of h) (rows_of_batches (batches_of h)) is.lawful.counts
 
 -- ---- lists side by side
 

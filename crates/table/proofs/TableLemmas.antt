@@ -19,20 +19,20 @@ use Rattle.group.specs.declared.stats.ColumnStats.{ColumnStats}
 use Rattle.pool.specs.Texts.{firsts, texts_of}
 use Rattle.pool.proofs.TextLemmas.{beyond, firsts-append}
 use Rattle.compaction.specs.Under.{NamesFront}
-use Rattle.table.specs.Lawful.{EndsWithEntry, IsStored, LawfulTable, counted, dictionaries_of, dictionary_in, table_of, texts_in}
+use Rattle.table.specs.Lawful.{EndsWithEntry, IsStored, LawfulTable, book_rows, dictionaries_of, dictionary_in, rows_of_batches, texts_in}
 use Rattle.compaction.specs.Statistics.{AreStatsOf}
 use Rattle.table.specs.Stored.{is_text_field}
 use Rattle.table.proofs.FrontLemmas.{prefix_trans}
 
-pub table_of-push : (batches : List Batch) (b : Batch) → table_of (batches ++ b ∷ []) ≡ table_of batches ++ rows_of b
-table_of-push batches b = flat_map-append rows_of batches (b ∷ []) ∙ ap (λ t. table_of batches ++ t) (append-nil (rows_of b))
+pub table_of-push : (batches : List Batch) (b : Batch) → rows_of_batches (batches ++ b ∷ []) ≡ rows_of_batches batches ++ rows_of b
+table_of-push batches b = flat_map-append rows_of batches (b ∷ []) ∙ ap (λ t. rows_of_batches batches ++ t) (append-nil (rows_of b))
 
-pub counted-push : (entries : List (ℕ × ℕ)) (e : ℕ × ℕ) → counted (entries ++ e ∷ []) ≡ counted entries + e.1
+pub counted-push : (entries : List (ℕ × ℕ)) (e : ℕ × ℕ) → book_rows (entries ++ e ∷ []) ≡ book_rows entries + e.1
 counted-push entries e = omega (arith, sum_by-append (λ (p : ℕ × ℕ). p.1) entries (e ∷ []))
 
 -- each front of the batches ends where an entry ends
 ends-push : (batches : List Batch) (entries : List (ℕ × ℕ)) (b : Batch) (worker : ℕ) → ((i : ℕ) → i ≤ length batches → EndsWithEntry batches entries i)
-    → counted entries ≡ length (table_of batches) → (i : ℕ) → i ≤ length (batches ++ b ∷ [])
+    → book_rows entries ≡ length (rows_of_batches batches) → (i : ℕ) → i ≤ length (batches ++ b ∷ [])
     → EndsWithEntry (batches ++ b ∷ []) (entries ++ (worker, length (rows_of b)) ∷ []) i
 ends-push batches entries b worker ends counts i within =
     elim (eq-or-lt_of_le within) [
@@ -48,9 +48,9 @@ ends-push batches entries b worker ends counts i within =
           each = at.each;
           within = omega (arith, at.within, length-append entries ((worker, length (rows_of b)) ∷ []));
           same =
-              ap (λ (l : List Batch). length (table_of l)) (take-append-le i batches (b ∷ []) le)
+              ap (λ (l : List Batch). length (rows_of_batches l)) (take-append-le i batches (b ∷ []) le)
               ∙ at.same
-              ∙ ap counted (sym (take-append-le at.entries entries ((worker, length (rows_of b)) ∷ []) at.within));
+              ∙ ap book_rows (sym (take-append-le at.entries entries ((worker, length (rows_of b)) ∷ []) at.within));
         }
 
     last : length batches < i → EndsWithEntry (batches ++ b ∷ []) (entries ++ (worker, length (rows_of b)) ∷ []) i
@@ -59,12 +59,12 @@ ends-push batches entries b worker ends counts i within =
       each = omega (arith, within, length-append batches (b ∷ []), before.each, before.within);
       within = omega (arith, length-append entries ((worker, length (rows_of b)) ∷ []));
       same =
-          ap (λ (l : List Batch). length (table_of l)) (take_all i (batches ++ b ∷ []) (omega (arith, gt, length-append batches (b ∷ []))))
+          ap (λ (l : List Batch). length (rows_of_batches l)) (take_all i (batches ++ b ∷ []) (omega (arith, gt, length-append batches (b ∷ []))))
           ∙ ap (λ (t : Table). length t) (table_of-push batches b)
-          ∙ length-append (table_of batches) (rows_of b)
+          ∙ length-append (rows_of_batches batches) (rows_of b)
           ∙ ap (λ n. n + length (rows_of b)) (sym counts)
           ∙ sym (counted-push entries (worker, length (rows_of b)))
-          ∙ ap counted (sym (take_all (length entries + 1) (entries ++ (worker, length (rows_of b)) ∷ []) (omega (arith, length-append entries ((worker, length (rows_of b)) ∷ [])))));
+          ∙ ap book_rows (sym (take_all (length entries + 1) (entries ++ (worker, length (rows_of b)) ∷ []) (omega (arith, length-append entries ((worker, length (rows_of b)) ∷ [])))));
     }
 
 -- ---- dictionaries that grow
@@ -138,11 +138,11 @@ dictionaries-begin fields t u = begin-from 0 fields t u
 pub Lawful-push : (fields : List FieldShape) (batches : List Batch) (pieces : List (List ColumnStats)) (stats : List ColumnStats) (dictionaries : List (Option Seen)) (entries : List (ℕ × ℕ))
     → LawfulTable fields batches pieces stats dictionaries entries
     → (b : Batch) (piece next : List ColumnStats) (grown : List (Option Seen)) (worker count : ℕ)
-    → IsStored fields b → AreStatsOf fields (rows_of b) piece → AreStatsOf fields (table_of batches ++ rows_of b) next → grown ≡ dictionaries_of fields (table_of batches ++ rows_of b)
-    → AllZip NamesFront b.columns grown → count ≡ length (rows_of b) → counted entries + count ≤ 2 ^ 40 → length entries + 1 < 2 ^ 32
+    → IsStored fields b → AreStatsOf fields (rows_of b) piece → AreStatsOf fields (rows_of_batches batches ++ rows_of b) next → grown ≡ dictionaries_of fields (rows_of_batches batches ++ rows_of b)
+    → AllZip NamesFront b.columns grown → count ≡ length (rows_of b) → book_rows entries + count ≤ 2 ^ 40 → length entries + 1 < 2 ^ 32
     → LawfulTable fields (batches ++ b ∷ []) (pieces ++ piece ∷ []) next grown (entries ++ (worker, count) ∷ [])
 Lawful-push fields batches pieces stats dictionaries entries is b piece next grown worker count stored of_piece of_all texts front size few short =
-    let t = table_of batches in
+    let t = rows_of_batches batches in
     let more = table_of-push batches b in
     record {
       stored = All-push (IsStored fields) batches b is.stored stored;

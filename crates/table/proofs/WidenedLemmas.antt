@@ -15,7 +15,7 @@ use Rattle.arrays.specs.Typed.{IsItemOf}
 use Rattle.group.proofs.ColumnsLemmas.{all_zip-push}
 use Rattle.pool.specs.Texts.{firsts, is_too_full, texts_of}
 use Rattle.table.specs.Cause.{IsLegal, IsRowOf, IsTableOf, cause, full_in, is_book_full, is_table_full, null_cause, null_in, null_row, texts_cause}
-use Rattle.table.specs.History.{History, book, cut, of, rows}
+use Rattle.table.specs.History.{History, book, history_from, of, rows}
 use Rattle.table.specs.Stored.{is_text_field}
 use Rattle.table.specs.Widened.{widened, widened_row, widened_table}
 use Rattle.table.specs.declared.refusal.Refusal.{Refusal}
@@ -143,11 +143,11 @@ pub book-widened : (n : ℕ) (h : History) → book (widened n h) ≡ book h
 book-widened n [] = refl
 book-widened n (e ∷ h) = ap (λ m. (e.0, m) ∷ book (widened n h)) (length-table n e.1) ∙ ap (λ b. (e.0, length e.1) ∷ b) (book-widened n h)
 
-pub cut-widened : (n : ℕ) (entries : List (ℕ × ℕ)) (t : Table) → cut entries (widened_table n t) ≡ widened n (cut entries t)
+pub cut-widened : (n : ℕ) (entries : List (ℕ × ℕ)) (t : Table) → history_from entries (widened_table n t) ≡ widened n (history_from entries t)
 cut-widened n [] t = refl
 cut-widened n (e ∷ entries) t =
-    ap (λ (u : Table). (e.0, u) ∷ cut entries (drop e.1 (widened_table n t))) (table-take n e.1 t)
-    ∙ ap (λ (u : Table). (e.0, widened_table n (take e.1 t)) ∷ cut entries u) (table-drop n e.1 t)
+    ap (λ (u : Table). (e.0, u) ∷ history_from entries (drop e.1 (widened_table n t))) (table-take n e.1 t)
+    ∙ ap (λ (u : Table). (e.0, widened_table n (take e.1 t)) ∷ history_from entries u) (table-drop n e.1 t)
     ∙ ap (λ (h : History). (e.0, widened_table n (take e.1 t)) ∷ h) (cut-widened n entries (drop e.1 t))
 
 -- ---- rows of fields

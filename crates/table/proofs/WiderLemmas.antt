@@ -26,11 +26,11 @@ use Rattle.pool.specs.Texts.{firsts, texts_of}
 use Rattle.table.specs.Cause.{IsLegal, null_cause}
 use Rattle.table.specs.Contents.{Contents}
 use Rattle.table.specs.Storage.{IsConsistent, IsSame, batches_of, book_of, dictionaries_in, pieces_in, show}
-use Rattle.table.specs.History.{cut, rows}
-use Rattle.table.specs.Lawful.{EndsWithEntry, IsStored, LawfulTable, counted, dictionaries_of, dictionary_in, table_of, texts_in}
-use Rattle.table.specs.Ready.{AreTexts}
+use Rattle.table.specs.History.{history_from, rows}
+use Rattle.table.specs.Lawful.{EndsWithEntry, IsStored, LawfulTable, book_rows, dictionaries_of, dictionary_in, rows_of_batches, texts_in}
+use Rattle.table.specs.Ready.{ArePools}
 use Rattle.table.specs.Stored.{is_text_field}
-use Rattle.table.specs.Widened.{widened, widened_row, widened_table, with_field}
+use Rattle.table.specs.Widened.{widened, widened_row, widened_table, with_last_field}
 use Rattle.table.specs.Widening.{AreAllWider, AreWider, IsWider, no_texts, with_nulls}
 use Rattle.table.specs.declared.storage.Storage.{Storage}
 use Rattle.arrays.proofs.BatchLemmas.{length-rows_of, map-same, whole}
@@ -137,12 +137,12 @@ others : {A : Type 0} (P : A → Type 0) (x : A) (xs : List A) → All P (x ∷ 
 others P x xs all = λ k d below. all (suc k) d (omega (arith, below))
 
 module _ (fields : List FieldShape) (f : FieldShape) where
-  pub table-wider : (batches : List Batch) → All (IsStored fields) batches → table_of (map (with_nulls f) batches) ≡ widened_table (length fields + 1) (table_of batches)
+  pub table-wider : (batches : List Batch) → All (IsStored fields) batches → rows_of_batches (map (with_nulls f) batches) ≡ widened_table (length fields + 1) (rows_of_batches batches)
   table-wider [] stored = refl
   table-wider (b ∷ batches) stored =
-      ap (λ (t : Table). t ++ table_of (map (with_nulls f) batches)) (stored-rows fields f b (stored 0 b (omega arith)))
+      ap (λ (t : Table). t ++ rows_of_batches (map (with_nulls f) batches)) (stored-rows fields f b (stored 0 b (omega arith)))
       ∙ ap (λ (t : Table). widened_table (length fields + 1) (rows_of b) ++ t) (table-wider batches (others (IsStored fields) b batches stored))
-      ∙ sym (table-append (length fields + 1) (rows_of b) (table_of batches))
+      ∙ sym (table-append (length fields + 1) (rows_of b) (rows_of_batches batches))
 
   tables-wider : (batches : List Batch) → All (IsStored fields) batches → map rows_of (map (with_nulls f) batches) ≡ map (widened_table (length fields + 1)) (map rows_of batches)
   tables-wider [] stored = refl
@@ -150,18 +150,18 @@ module _ (fields : List FieldShape) (f : FieldShape) where
       ap (λ (t : Table). t ∷ map rows_of (map (with_nulls f) batches)) (stored-rows fields f b (stored 0 b (omega arith)))
       ∙ ap (λ (l : List Table). widened_table (length fields + 1) (rows_of b) ∷ l) (tables-wider batches (others (IsStored fields) b batches stored))
 
-  length-wider : (batches : List Batch) → length (table_of (map (with_nulls f) batches)) ≡ length (table_of batches)
+  length-wider : (batches : List Batch) → length (rows_of_batches (map (with_nulls f) batches)) ≡ length (rows_of_batches batches)
   length-wider [] = refl
   length-wider (b ∷ batches) =
-      omega (arith, length-append (rows_of (with_nulls f b)) (table_of (map (with_nulls f) batches)), length-append (rows_of b) (table_of batches), length-rows_of (with_nulls f b), length-rows_of b, length-wider batches)
+      omega (arith, length-append (rows_of (with_nulls f b)) (rows_of_batches (map (with_nulls f) batches)), length-append (rows_of b) (rows_of_batches batches), length-rows_of (with_nulls f b), length-rows_of b, length-wider batches)
 
   short-batch : (b : Batch) → IsStored fields b → All (λ (row : Row). length row ≤ length fields) (rows_of b)
   short-batch b is = short-rows b.columns (range_with_len 0 b.rows) (length fields) (omega (arith, count fields b is))
 
-  short-table : (batches : List Batch) → All (IsStored fields) batches → All (λ (row : Row). length row ≤ length fields) (table_of batches)
+  short-table : (batches : List Batch) → All (IsStored fields) batches → All (λ (row : Row). length row ≤ length fields) (rows_of_batches batches)
   short-table [] stored = λ k d below. absurd (omega (arith, below))
   short-table (b ∷ batches) stored =
-      All-append (λ (row : Row). length row ≤ length fields) (rows_of b) (table_of batches) (short-batch b (stored 0 b (omega arith)))
+      All-append (λ (row : Row). length row ≤ length fields) (rows_of b) (rows_of_batches batches) (short-batch b (stored 0 b (omega arith)))
       (short-table batches (others (IsStored fields) b batches stored))
 
 -- ---- statistics
@@ -263,12 +263,12 @@ ends-wider fields f batches entries ends i within =
       entries = old.entries;
       each = old.each;
       within = old.within;
-      same = ap (λ (l : List Batch). length (table_of l)) (take-map (with_nulls f) i batches) ∙ length-wider fields f (take i batches) ∙ old.same;
+      same = ap (λ (l : List Batch). length (rows_of_batches l)) (take-map (with_nulls f) i batches) ∙ length-wider fields f (take i batches) ∙ old.same;
     }
 
 pub lawful-wider : (fields : List FieldShape) (f : FieldShape) → is_nullable f ≡ true
     → (batches : List Batch) (pieces theirs : List (List ColumnStats)) (stats after : List ColumnStats) (dictionaries : List (Option Seen)) (entries : List (ℕ × ℕ))
-    → LawfulTable fields batches pieces stats dictionaries entries → AreAllWider (kind_of_field f) batches pieces theirs → AreWider (kind_of_field f) (length (table_of batches)) stats after
+    → LawfulTable fields batches pieces stats dictionaries entries → AreAllWider (kind_of_field f) batches pieces theirs → AreWider (kind_of_field f) (length (rows_of_batches batches)) stats after
     → LawfulTable (fields ++ f ∷ []) (map (with_nulls f) batches) theirs after (dictionaries ++ no_texts (kind_of_field f) ∷ []) entries
 lawful-wider fields f nullable batches pieces theirs stats after dictionaries entries is all wide =
     let n = length fields + 1 in
@@ -283,14 +283,14 @@ lawful-wider fields f nullable batches pieces theirs stats after dictionaries en
       short = is.short;
       texts =
           ap (λ (l : List (Option Seen)). l ++ no_texts (kind_of_field f) ∷ []) is.texts
-          ∙ sym (dictionaries-wider fields f n (table_of batches) short)
+          ∙ sym (dictionaries-wider fields f n (rows_of_batches batches) short)
           ∙ ap (dictionaries_of (fields ++ f ∷ [])) (sym table);
       fronts =
           All-map (λ (b : Batch). AllZip NamesFront b.columns (dictionaries ++ no_texts (kind_of_field f) ∷ [])) (with_nulls f) batches
           (λ k b below.
           all_zip-push NamesFront (get_or batches k b).columns dictionaries (nulls (kind_of_field f) (get_or batches k b).rows) (no_texts (kind_of_field f)) (is.fronts k b below)
           (front-nulls (kind_of_field f) (get_or batches k b).rows (same_kind (kind_of_field f) kind.dict)));
-      statistics = subst (λ (u : Table). AreStatsOf (fields ++ f ∷ []) u after) (sym table) (stats-wider fields f n (table_of batches) stats after short is.statistics wide);
+      statistics = subst (λ (u : Table). AreStatsOf (fields ++ f ∷ []) u after) (sym table) (stats-wider fields f n (rows_of_batches batches) stats after short is.statistics wide);
       parts = parts-wider fields f batches pieces theirs is.stored is.parts all;
     }
 
@@ -299,15 +299,15 @@ lawful-wider fields f nullable batches pieces theirs stats after dictionaries en
 module _ (h g : Storage) (f : FieldShape) (nullable : is_nullable f ≡ true) (is : IsConsistent h) (wide : IsWider f h g) where
   history : (show g).history ≡ widened (length (arc_value h.schema) + 1) (show h).history
   history =
-      ap (λ (e : List (ℕ × ℕ)). cut e (table_of (batches_of g))) wide.book
-      ∙ ap (λ (l : List Batch). cut (book_of h) (table_of l)) wide.batches
-      ∙ ap (cut (book_of h)) (table-wider (arc_value h.schema) f (batches_of h) is.lawful.stored)
-      ∙ cut-widened (length (arc_value h.schema) + 1) (book_of h) (table_of (batches_of h))
+      ap (λ (e : List (ℕ × ℕ)). history_from e (rows_of_batches (batches_of g))) wide.book
+      ∙ ap (λ (l : List Batch). history_from (book_of h) (rows_of_batches l)) wide.batches
+      ∙ ap (history_from (book_of h)) (table-wider (arc_value h.schema) f (batches_of h) is.lawful.stored)
+      ∙ cut-widened (length (arc_value h.schema) + 1) (book_of h) (rows_of_batches (batches_of h))
 
   tables : (show g).batches ≡ map (widened_table (length (arc_value h.schema) + 1)) (show h).batches
   tables = ap (λ (l : List Batch). map rows_of l) wide.batches ∙ tables-wider (arc_value h.schema) f (batches_of h) is.lawful.stored
 
-  pub wider-shows : show g ≡ with_field (show h) f
+  pub wider-shows : show g ≡ with_last_field (show h) f
   wider-shows = λ i. record { fields = wide.schema i; history = history i; batches = tables i }
 
   lawful : LawfulTable (arc_value h.schema ++ f ∷ []) (map (with_nulls f) (batches_of h)) (pieces_in g) (arc_value g.stats).items (dictionaries_in h ++ no_texts (kind_of_field f) ∷ []) (book_of h)
@@ -322,28 +322,28 @@ module _ (h g : Storage) (f : FieldShape) (nullable : is_nullable f ≡ true) (i
         (subst (λ (l : List Batch). LawfulTable (arc_value h.schema ++ f ∷ []) l (pieces_in g) (arc_value g.stats).items (dictionaries_in g) (book_of g)) (sym wide.batches)
         (subst (λ (d : List (Option Seen)). LawfulTable (arc_value h.schema ++ f ∷ []) (map (with_nulls f) (batches_of h)) (pieces_in g) (arc_value g.stats).items d (book_of g)) (sym wide.dictionaries)
         (subst (λ (e : List (ℕ × ℕ)). LawfulTable (arc_value h.schema ++ f ∷ []) (map (with_nulls f) (batches_of h)) (pieces_in g) (arc_value g.stats).items (dictionaries_in h ++ no_texts (kind_of_field f) ∷ []) e) (sym wide.book) lawful)));
-    rows = wide.rows ∙ is.rows ∙ ap counted (sym wide.book);
+    rows = wide.rows ∙ is.rows ∙ ap book_rows (sym wide.book);
     legal =
         subst (λ (l : List FieldShape). IsLegal l (show g).history) (sym wide.schema)
         (subst (IsLegal (arc_value h.schema ++ f ∷ [])) (sym history) (legal-wider (arc_value h.schema) (show h).history f nullable is.legal));
   }
 
 -- the texts of a table that shows a field more
-pub texts-shown : (h g : Storage) (f : FieldShape) (pools : List (List (List ℕ))) → IsConsistent h → IsConsistent g → ◌≡◌ {A = Contents} (show g) (with_field (show h) f) → AreTexts h (table_of (batches_of h)) pools
-    → AreTexts g (table_of (batches_of g)) (pools ++ [] ∷ [])
+pub texts-shown : (h g : Storage) (f : FieldShape) (pools : List (List (List ℕ))) → IsConsistent h → IsConsistent g → ◌≡◌ {A = Contents} (show g) (with_last_field (show h) f) → ArePools h (rows_of_batches (batches_of h)) pools
+    → ArePools g (rows_of_batches (batches_of g)) (pools ++ [] ∷ [])
 texts-shown h g f pools is stands shows are =
     let fields : arc_value g.schema ≡ arc_value h.schema ++ f ∷ [] = ap (λ (s : Contents). s.fields) shows in
     let n = length (arc_value h.schema) + 1 in
-    let table : table_of (batches_of g) ≡ widened_table n (table_of (batches_of h)) =
+    let table : rows_of_batches (batches_of g) ≡ widened_table n (rows_of_batches (batches_of h)) =
     sym (rows-shown g stands) ∙ ap (λ (s : Contents). rows s.history) shows ∙ rows-widened n (show h).history ∙ ap (widened_table n) (rows-shown h is) in
     ap (λ (l : List (List (List ℕ))). l ++ [] ∷ []) are
-    ∙ sym (texts-wider (arc_value h.schema) f n (table_of (batches_of h)) (short-table (arc_value h.schema) f (batches_of h) is.lawful.stored))
+    ∙ sym (texts-wider (arc_value h.schema) f n (rows_of_batches (batches_of h)) (short-table (arc_value h.schema) f (batches_of h) is.lawful.stored))
     ∙ ap (λ (t : Table). map (texts_in t) (enumerate_from 0 (arc_value h.schema ++ f ∷ []))) (sym table)
-    ∙ ap (λ (l : List FieldShape). map (texts_in (table_of (batches_of g))) (enumerate_from 0 l)) (sym fields)
+    ∙ ap (λ (l : List FieldShape). map (texts_in (rows_of_batches (batches_of g))) (enumerate_from 0 l)) (sym fields)
 
 -- the table after the change, with a pool more
-pub added-storage : (h next new : Storage) (f : FieldShape) (olds pools : List (List (List ℕ))) → IsConsistent h → AreTexts h (table_of (batches_of h)) olds → IsConsistent next → ◌≡◌ {A = Contents} (show next) (with_field (show h) f)
-    → IsSame next new → pools ≡ olds ++ [] ∷ [] → IsConsistent new × AreTexts new (table_of (batches_of new)) pools
+pub added-storage : (h next new : Storage) (f : FieldShape) (olds pools : List (List (List ℕ))) → IsConsistent h → ArePools h (rows_of_batches (batches_of h)) olds → IsConsistent next → ◌≡◌ {A = Contents} (show next) (with_last_field (show h) f)
+    → IsSame next new → pools ≡ olds ++ [] ∷ [] → IsConsistent new × ArePools new (rows_of_batches (batches_of new)) pools
 added-storage h next new f olds pools is are stands shows same pushed =
     let holds = Storage-same next new same stands in (
       holds,

@@ -4,20 +4,20 @@ use Rattle.arrays.specs.Batch.{Batch, batch_fault}
 use Rattle.arrays.specs.Seen.{Seen, part}
 use Rattle.arrays.specs.Shape.{FieldShape}
 use Rattle.select.specs.Chosen.{chosen}
-use Rattle.table.specs.Lawful.{table_of}
+use Rattle.table.specs.Lawful.{rows_of_batches}
 use Rattle.table.specs.declared.export.Place.{Place}
 
 -- How many rows the first i batches have.
 abbrev pub rows_before : List Batch → ℕ → ℕ
-rows_before batches i = length (table_of (take i batches))
+rows_before batches i = length (rows_of_batches (take i batches))
 
 -- How many rows come before the place.
 abbrev pub passed : List Batch → Place → ℕ
 passed batches p = rows_before batches p.batch + p.used
 
 -- The place is one of its batch, which may end there.
-abbrev pub IsPlace : List Batch → Place → Type 0
-IsPlace batches p = passed batches p ≤ rows_before batches (p.batch + 1)
+abbrev pub IsExportPlace : List Batch → Place → Type 0
+IsExportPlace batches p = passed batches p ≤ rows_before batches (p.batch + 1)
 
 -- Rows of its batch come after it.
 abbrev pub HasMore : List Batch → Place → Type 0

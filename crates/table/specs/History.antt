@@ -20,6 +20,6 @@ abbrev pub book : History → List (ℕ × ℕ)
 book h = map (λ e. (e.0, length e.1)) h
 
 -- The history with this book and these rows.
-abbrev pub cut : List (ℕ × ℕ) → Table → History
-cut [] t = []
-cut (e ∷ rest) t = (e.0, take e.1 t) ∷ cut rest (drop e.1 t)
+abbrev pub history_from : List (ℕ × ℕ) → Table → History
+history_from [] t = []
+history_from (e ∷ rest) t = (e.0, take e.1 t) ∷ history_from rest (drop e.1 t)

@@ -15,12 +15,12 @@ use Rattle.table.specs.Cause.{null_cause}
 use Rattle.table.specs.Stored.{is_text_field}
 
 -- The rows of all batches.
-abbrev pub table_of : List Batch → Table
-table_of batches = flat_map rows_of batches
+abbrev pub rows_of_batches : List Batch → Table
+rows_of_batches batches = flat_map rows_of batches
 
 -- How many rows a book counts.
-abbrev pub counted : List (ℕ × ℕ) → ℕ
-counted book = sum_by (λ e. e.1) book
+abbrev pub book_rows : List (ℕ × ℕ) → ℕ
+book_rows book = sum_by (λ e. e.1) book
 
 -- A batch of the fields: each column is of its field's kind and as long as the batch, and has no null where the field
 -- isn't nullable. ("RecordBatch"; "Schema message", nullable)
@@ -49,17 +49,17 @@ pub record EndsWithEntry (batches : List Batch) (book : List (ℕ × ℕ)) (i : 
   pub entries : ℕ
   pub each : i ≤ entries
   pub within : entries ≤ length book
-  pub same : length (table_of (take i batches)) ≡ counted (take entries book)
+  pub same : length (rows_of_batches (take i batches)) ≡ book_rows (take entries book)
 
 -- The batches, their statistics, the columns' statistics and dictionaries, and the book.
 pub record LawfulTable (fields : List FieldShape) (batches : List Batch) (pieces : List (List ColumnStats)) (stats : List ColumnStats) (dictionaries : List (Option Seen)) (book : List (ℕ × ℕ)) : Type 0 where
   pub stored : All (IsStored fields) batches
   pub ends : (i : ℕ) → i ≤ length batches → EndsWithEntry batches book i
   pub some : 1 ≤ length book → 1 ≤ length batches
-  pub counts : counted book ≡ length (table_of batches)
-  pub few : counted book ≤ 2 ^ 40
+  pub counts : book_rows book ≡ length (rows_of_batches batches)
+  pub few : book_rows book ≤ 2 ^ 40
   pub short : length book < 2 ^ 32
-  pub texts : dictionaries ≡ dictionaries_of fields (table_of batches)
+  pub texts : dictionaries ≡ dictionaries_of fields (rows_of_batches batches)
   pub fronts : All (λ b. AllZip NamesFront b.columns dictionaries) batches
-  pub statistics : AreStatsOf fields (table_of batches) stats
+  pub statistics : AreStatsOf fields (rows_of_batches batches) stats
   pub parts : AllZip (λ b s. AreStatsOf fields (rows_of b) s) batches pieces

@@ -23,8 +23,8 @@ abbrev pub grown : List (List ℕ) × Seen → List (List ℕ)
 grown p = if is_recodable p.1.kind then firsts (p.0 ++ texts_of p.1.items) else p.0
 
 -- Whether they are more than a dictionary holds.
-abbrev pub is_full : List (List ℕ) × Seen → Bool
-is_full p = is_recodable p.1.kind && is_too_full (grown p)
+abbrev pub is_past_dictionary : List (List ℕ) × Seen → Bool
+is_past_dictionary p = is_recodable p.1.kind && is_too_full (grown p)
 
 -- The dictionary of the texts, where the column is one of texts.
 abbrev pub dictionary_for : List (List ℕ) × Seen → Option Seen
@@ -40,7 +40,7 @@ stored_seen p = if is_recodable p.1.kind then coded (grown p) p.1 else p.1
 
 -- The least column with too many texts.
 abbrev pub full_at : ℕ × (List (List ℕ) × Seen) → Option Refusal
-full_at e = then_some (is_full e.1) (TextsFull e.0)
+full_at e = then_some (is_past_dictionary e.1) (TextsFull e.0)
 
 unfoldable pub full_cause : List (List (List ℕ)) → List Seen → Option Refusal
 full_cause texts columns = first (map full_at (enumerate_from 0 (zip texts columns)))

@@ -10,8 +10,8 @@ use Rattle.compaction.specs.Under.{pieces_of}
 use Rattle.group.specs.declared.stats.ColumnStats.{ColumnStats}
 use Rattle.table.specs.Cause.{IsLegal}
 use Rattle.table.specs.Contents.{Contents}
-use Rattle.table.specs.History.{cut}
-use Rattle.table.specs.Lawful.{LawfulTable, counted, table_of}
+use Rattle.table.specs.History.{history_from}
+use Rattle.table.specs.Lawful.{LawfulTable, book_rows, rows_of_batches}
 use Rattle.table.specs.Moved.{with_last}
 use Rattle.table.specs.declared.change.Addition.{Addition}
 use Rattle.table.specs.declared.storage.Storage.{Storage}
@@ -32,14 +32,14 @@ pieces_in h = pieces_of h.batch_stats
 abbrev pub show : Storage → Contents
 show h = record {
   fields = arc_value h.schema;
-  history = cut (book_of h) (table_of (batches_of h));
+  history = history_from (book_of h) (rows_of_batches (batches_of h));
   batches = map rows_of (batches_of h);
 }
 
 -- All parts agree, and nothing stood against what was added.
 pub record IsConsistent (h : Storage) : Type 0 where
   pub lawful : LawfulTable (arc_value h.schema) (batches_of h) (pieces_in h) (arc_value h.stats).items (dictionaries_in h) (book_of h)
-  pub rows : h.rows ≡ counted (book_of h)
+  pub rows : h.rows ≡ book_rows (book_of h)
   pub legal : IsLegal (arc_value h.schema) (show h).history
 
 -- There is room for one batch more.

@@ -25,8 +25,8 @@ abbrev pub widened : ℕ → History → History
 widened n h = map (λ e. (e.0, widened_table n e.1)) h
 
 -- With one field more, behind the others.
-abbrev pub with_field : Contents → FieldShape → Contents
-with_field c f = record {
+abbrev pub with_last_field : Contents → FieldShape → Contents
+with_last_field c f = record {
   fields = c.fields ++ f ∷ [];
   history = widened (length c.fields + 1) c.history;
   batches = map (widened_table (length c.fields + 1)) c.batches;

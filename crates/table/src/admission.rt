@@ -9,8 +9,8 @@ ghost use Rattle.arrays.specs.Typed.{IsItemOf};
 ghost use Rattle.table.specs.Cause.{batch_cause, early_cause};
 ghost use Rattle.group.specs.Columns.{AreTheirs};
 ghost use Rattle.table.specs.Storage.{IsConsistent, batches_of, show};
-ghost use Rattle.table.specs.Lawful.{table_of};
-ghost use Rattle.table.specs.Ready.{AreTexts, BeginWithTexts, IsReady};
+ghost use Rattle.table.specs.Lawful.{rows_of_batches};
+ghost use Rattle.table.specs.Ready.{ArePools, BeginWithTexts, IsAdditionOf};
 
 use crate::change::{Addition, take_back};
 use crate::columns::{Columns, stored_columns};
@@ -36,11 +36,11 @@ pub(crate) fn stage(
 ) -> Result<Addition, Refusal>
     requires storage { IsConsistent storage.now }
     requires stats { AreTheirs batch.now.columns (arc_value batch_stats).items }
-    requires pools { AreTexts storage.now (table_of (batches_of storage.now)) pools.old.items }
+    requires pools { ArePools storage.now (rows_of_batches (batches_of storage.now)) pools.old.items }
     requires allowed { early_cause (arc_value storage.now.schema) (show storage.now).history batch.now ≡ None }
-    ensures ok { IfOk result (λ p. IsReady storage.now worker batch.now p) }
-    ensures pools { OnOk result (AreTexts storage.now (table_of (batches_of storage.now) ++ rows_of batch.now) pools.new.items) }
-    ensures begun { OnOk result (BeginWithTexts storage.now (table_of (batches_of storage.now)) pools.new.items) }
+    ensures ok { IfOk result (λ p. IsAdditionOf storage.now worker batch.now p) }
+    ensures pools { OnOk result (ArePools storage.now (rows_of_batches (batches_of storage.now) ++ rows_of batch.now) pools.new.items) }
+    ensures begun { OnOk result (BeginWithTexts storage.now (rows_of_batches (batches_of storage.now)) pools.new.items) }
     ensures err { IfErr result (λ e. (e ≡ Refusal.NoMemory)
         ⊎ (batch_cause (arc_value storage.now.schema) (show storage.now).history batch.now ≡ Some e)) }
     ensures kept { OnErr result (pools.new.items ≡ pools.old.items) }
@@ -65,10 +65,10 @@ fn recoded(
 ) -> Result<Addition, Refusal>
     requires storage { IsConsistent storage.now }
     requires stats { AreTheirs batch.now.columns (arc_value batch_stats).items }
-    requires pools { AreTexts storage.now (table_of (batches_of storage.now)) pools.old.items }
+    requires pools { ArePools storage.now (rows_of_batches (batches_of storage.now)) pools.old.items }
     requires allowed { early_cause (arc_value storage.now.schema) (show storage.now).history batch.now ≡ None }
-    ensures ok { IfOk result (λ p. IsReady storage.now worker batch.now p) }
-    ensures pools { OnOk result (AreTexts storage.now (table_of (batches_of storage.now) ++ rows_of batch.now) pools.new.items) }
+    ensures ok { IfOk result (λ p. IsAdditionOf storage.now worker batch.now p) }
+    ensures pools { OnOk result (ArePools storage.now (rows_of_batches (batches_of storage.now) ++ rows_of batch.now) pools.new.items) }
     ensures err { IfErr result (λ e. (e ≡ Refusal.NoMemory)
         ⊎ (batch_cause (arc_value storage.now.schema) (show storage.now).history batch.now ≡ Some e)) }
     ensures begun { AllZip IsPrefix pools.old.items pools.new.items }

@@ -4,8 +4,8 @@ ghost use Rattle.std.specs.Prelude.{◌≡◌, IfOk, OnErr, OnOk, map, option_ma
 ghost use Rattle.std.specs.Arc.{arc_value};
 ghost use Rattle.table.specs.Change.{CanCommit, IsNext};
 ghost use Rattle.table.specs.Storage.{IsConsistent, batches_of, show};
-ghost use Rattle.table.specs.Lawful.{table_of};
-ghost use Rattle.table.specs.Ready.{AreTexts, BeginWithTexts};
+ghost use Rattle.table.specs.Lawful.{rows_of_batches};
+ghost use Rattle.table.specs.Ready.{ArePools, BeginWithTexts};
 
 use crate::book::Book;
 use crate::chunks::Chunks;
@@ -99,12 +99,12 @@ pub(crate) fn commit<L: Look>(
     requires storage { IsConsistent storage.old }
     requires can { CanCommit change storage.old }
     requires lawful { (h : Storage) → IsNext change storage.old h → IsConsistent h }
-    requires begun { BeginWithTexts storage.old (table_of (batches_of storage.old)) pools.old.items }
+    requires begun { BeginWithTexts storage.old (rows_of_batches (batches_of storage.old)) pools.old.items }
     ensures next { OnOk result (IsNext change storage.old storage.new) }
     ensures seen { IfOk result (λ l. L.sees l (show storage.new)) }
     ensures pools { OnOk result (pools.new ≡ pools.old) }
     ensures kept { OnErr result (storage.new ≡ storage.old) }
-    ensures back { OnErr result (AreTexts storage.old (table_of (batches_of storage.old)) pools.new.items) }
+    ensures back { OnErr result (ArePools storage.old (rows_of_batches (batches_of storage.old)) pools.new.items) }
 {
     match L::look(alloc, storage, &change) {
         Ok(seen) => {
@@ -121,8 +121,8 @@ pub(crate) fn commit<L: Look>(
 /// Takes back the texts that pools have beside those of what is stored.
 pub(crate) fn take_back(storage: &Storage, pools: &mut Vec<TextPool>)
     requires storage { IsConsistent storage.now }
-    requires begun { BeginWithTexts storage.now (table_of (batches_of storage.now)) pools.old.items }
-    ensures { AreTexts storage.now (table_of (batches_of storage.now)) pools.new.items }
+    requires begun { BeginWithTexts storage.now (rows_of_batches (batches_of storage.now)) pools.old.items }
+    ensures { ArePools storage.now (rows_of_batches (batches_of storage.now)) pools.new.items }
 {
     cut_back(pools, &storage.dictionaries);
 }

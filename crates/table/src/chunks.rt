@@ -36,9 +36,9 @@ impl<T> Model for Chunks<T> {
     ghost coded = { coded_list T.code };
 
     ghost use Rattle.std.specs.Arc.{arc_value};
-    ghost use Rattle.table.specs.Chunks.{AreChunks, values_of};
+    ghost use Rattle.table.specs.Chunks.{AreChunks, chunk_values};
 
-    ghost view = { λ c. values_of (map arc_value (arc_value c.full).items) (arc_value c.last).items };
+    ghost view = { λ c. chunk_values (map arc_value (arc_value c.full).items) (arc_value c.last).items };
 
     ghost invariant = { λ c. AreChunks (map arc_value (arc_value c.full).items) (arc_value c.last).items c.len };
 }

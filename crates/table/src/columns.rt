@@ -9,7 +9,7 @@ ghost use Rattle.arrays.specs.Item.{text};
 ghost use Rattle.arrays.specs.Shown.{shown};
 ghost use Rattle.arrays.specs.Slot.{is_recodable};
 ghost use Rattle.pool.specs.Front.{IsFront};
-ghost use Rattle.table.specs.Recoded.{coded, dictionary_for, entry_count, full_cause, grown, is_full, shortened, stored_seen};
+ghost use Rattle.table.specs.Recoded.{coded, dictionary_for, entry_count, full_cause, grown, is_past_dictionary, shortened, stored_seen};
 
 use crate::refusal::Refusal;
 use arrays::{Array, Words};
@@ -77,8 +77,8 @@ fn stored_column(
     ensures column { IfOk result (λ r. r.0 ≡ stored_seen (pool.old, column.now)) }
     ensures dictionary { IfOk result (λ r. option_map arc_value r.1 ≡ dictionary_for (grown (pool.old, column.now), column.now)) }
     ensures pool { OnOk result (pool.new ≡ grown (pool.old, column.now)) }
-    ensures fits { OnOk result (is_full (pool.old, column.now) ≡ false) }
-    ensures err { IfErr result (λ e. ((e ≡ PoolFault.TextsFull) × (is_full (pool.old, column.now) ≡ true)) ⊎ (e ≡ PoolFault.NoMemory)) }
+    ensures fits { OnOk result (is_past_dictionary (pool.old, column.now) ≡ false) }
+    ensures err { IfErr result (λ e. ((e ≡ PoolFault.TextsFull) × (is_past_dictionary (pool.old, column.now) ≡ true)) ⊎ (e ≡ PoolFault.NoMemory)) }
     ensures begun { IsPrefix pool.old pool.new }
 {
     match dictionary {
@@ -103,8 +103,8 @@ fn stored_texts(
     ensures column { IfOk result (λ r. r.0 ≡ coded (grown (pool.old, column.now)) column.now) }
     ensures dictionary { IfOk result (λ r. arc_value r.1 ≡ shown kind.utf8 (map text (grown (pool.old, column.now)))) }
     ensures pool { OnOk result (pool.new ≡ grown (pool.old, column.now)) }
-    ensures fits { OnOk result (is_full (pool.old, column.now) ≡ false) }
-    ensures err { IfErr result (λ e. ((e ≡ PoolFault.TextsFull) × (is_full (pool.old, column.now) ≡ true)) ⊎ (e ≡ PoolFault.NoMemory)) }
+    ensures fits { OnOk result (is_past_dictionary (pool.old, column.now) ≡ false) }
+    ensures err { IfErr result (λ e. ((e ≡ PoolFault.TextsFull) × (is_past_dictionary (pool.old, column.now) ≡ true)) ⊎ (e ≡ PoolFault.NoMemory)) }
     ensures begun { IsPrefix pool.old pool.new }
 {
     let codes = recode(alloc, &column.view(), pool)?;

@@ -5,9 +5,9 @@ ghost use Rattle.std.specs.Arc.{arc_value};
 ghost use Rattle.std.specs.List.{AllByRecursion};
 ghost use Rattle.colbits.specs.Slice.{slice};
 ghost use Rattle.arrays.specs.Batch.{rows_of};
-ghost use Rattle.table.specs.Export.{HasMore, IsLawful, IsPlace, IsUnder, copied, passed};
+ghost use Rattle.table.specs.Export.{HasMore, IsLawful, IsExportPlace, IsUnder, copied, passed};
 ghost use Rattle.table.specs.Storage.{IsConsistent, show};
-ghost use Rattle.table.specs.Lawful.{table_of};
+ghost use Rattle.table.specs.Lawful.{rows_of_batches};
 
 use crate::storage::Storage;
 use arrays::{Array, File, RecordBatch, Schema};
@@ -58,12 +58,12 @@ fn entry_batches(alloc: Global, storage: &Storage) -> Result<Vec<Arc<RecordBatch
 impl Place {
     /// The same place, in a batch with rows behind it, where there is one.
     fn in_batch(self, batches: &[Arc<RecordBatch>]) -> Place
-        requires place { IsPlace (map arc_value batches.now) self }
+        requires place { IsExportPlace (map arc_value batches.now) self }
         requires within { self.batch < length batches.now }
         ensures same { passed (map arc_value batches.now) result ≡ passed (map arc_value batches.now) self }
-        ensures place { IsPlace (map arc_value batches.now) result }
+        ensures place { IsExportPlace (map arc_value batches.now) result }
         ensures within { result.batch < length batches.now }
-        ensures left { passed (map arc_value batches.now) self < length (table_of (map arc_value batches.now)) → HasMore (map arc_value batches.now) result }
+        ensures left { passed (map arc_value batches.now) self < length (rows_of_batches (map arc_value batches.now)) → HasMore (map arc_value batches.now) result }
     {
         if self.used < batches[self.batch].rows() {
             return self;

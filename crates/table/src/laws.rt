@@ -4,19 +4,19 @@ ghost use Rattle.std.specs.Prelude.{◌≡◌, ◌∷◌, ◌++◌, ◌+◌, [],
 ghost use Rattle.arrays.specs.Batch.{Table};
 ghost use Rattle.arrays.specs.Shape.{FieldShape, is_nullable};
 ghost use Rattle.table.specs.Cause.{IsLegal, IsTableOf};
-ghost use Rattle.table.specs.History.{History, book, cut, rows};
-ghost use Rattle.table.specs.Lawful.{counted};
+ghost use Rattle.table.specs.History.{History, book, history_from, rows};
+ghost use Rattle.table.specs.Lawful.{book_rows};
 ghost use Rattle.table.specs.Widened.{widened};
 
 /// The history that a book cuts out of a table has this book and these rows, where the book counts as many.
 pub fn a_cut_has_its_book_and_rows()
-    ensures book { (entries : List (ℕ × ℕ)) (t : Table) → counted entries ≡ length t → book (cut entries t) ≡ entries }
-    ensures rows { (entries : List (ℕ × ℕ)) (t : Table) → counted entries ≡ length t → rows (cut entries t) ≡ t }
+    ensures book { (entries : List (ℕ × ℕ)) (t : Table) → book_rows entries ≡ length t → book (history_from entries t) ≡ entries }
+    ensures rows { (entries : List (ℕ × ℕ)) (t : Table) → book_rows entries ≡ length t → rows (history_from entries t) ≡ t }
 {}
 
 /// Each history is the one that its book cuts out of its rows.
 pub fn a_history_is_cut_out_of_its_rows()
-    ensures { (h : History) → cut (book h) (rows h) ≡ h }
+    ensures { (h : History) → history_from (book h) (rows h) ≡ h }
 {}
 
 /// A legal history, widened by a column that may hold nulls, is legal: what was admitted would be so with the column.

@@ -8,7 +8,7 @@ ghost use Rattle.arrays.specs.Shape.{field_of};
 ghost use Rattle.group.specs.Columns.{AreTheirs};
 ghost use Rattle.table.specs.Compacted.{IsCompacted};
 ghost use Rattle.table.specs.Stored.{stored_field, stored_fields};
-ghost use Rattle.table.specs.Widened.{add_fault, with_field};
+ghost use Rattle.table.specs.Widened.{add_fault, with_last_field};
 
 use crate::add_fault::AddFault;
 use crate::cause::early_refusal;
@@ -47,14 +47,14 @@ impl Model for TableState {
     ghost coded = { contents_code };
 
     ghost use Rattle.table.specs.Storage.{IsConsistent, batches_of, show};
-    ghost use Rattle.table.specs.Lawful.{table_of};
-    ghost use Rattle.table.specs.Ready.{AreTexts};
+    ghost use Rattle.table.specs.Lawful.{rows_of_batches};
+    ghost use Rattle.table.specs.Ready.{ArePools};
 
     ghost view = { λ s. show s.storage };
 
     ghost invariant = { λ s. record {
       storage : IsConsistent s.storage;
-      texts : AreTexts s.storage (table_of (batches_of s.storage)) s.pools.items;
+      texts : ArePools s.storage (rows_of_batches (batches_of s.storage)) s.pools.items;
     } };
 }
 
@@ -211,7 +211,7 @@ impl TableState {
     /// refusal the table is as it was.
     pub fn add_column(&mut self, field: Field) -> Result<(), AddFault>
         ensures allowed { OnOk result (add_fault (field_of field) ≡ None) }
-        ensures added { OnOk result (self.new ≡ with_field self.old (stored_field (field_of field))) }
+        ensures added { OnOk result (self.new ≡ with_last_field self.old (stored_field (field_of field))) }
         ensures err { IfErr result (λ e. ((e ≡ AddFault.NoMemory) × (add_fault (field_of field) ≡ None))
             ⊎ (add_fault (field_of field) ≡ Some e)) }
         ensures kept { OnErr result (self.new ≡ self.old) }
@@ -228,7 +228,7 @@ impl TableState {
     ) -> Result<(Arc<Version>, Arc<Version>), AddFault>
         ensures shown { IfOk result (λ v. (arc_value v.0 ≡ self.new) × (arc_value v.1 ≡ self.new)) }
         ensures allowed { OnOk result (add_fault (field_of field.now) ≡ None) }
-        ensures added { OnOk result (self.new ≡ with_field self.old (stored_field (field_of field.now))) }
+        ensures added { OnOk result (self.new ≡ with_last_field self.old (stored_field (field_of field.now))) }
         ensures err { IfErr result (λ e. ((e ≡ AddFault.NoMemory) × (add_fault (field_of field.now) ≡ None))
             ⊎ (add_fault (field_of field.now) ≡ Some e)) }
         ensures kept { OnErr result (self.new ≡ self.old) }
@@ -241,7 +241,7 @@ impl TableState {
     fn widen<L: Look>(&mut self, field: &Field) -> Result<L, AddFault>
         ensures seen { IfOk result (λ l. L.sees l self.new) }
         ensures allowed { OnOk result (add_fault (field_of field.now) ≡ None) }
-        ensures added { OnOk result (self.new ≡ with_field self.old (stored_field (field_of field.now))) }
+        ensures added { OnOk result (self.new ≡ with_last_field self.old (stored_field (field_of field.now))) }
         ensures err { IfErr result (λ e. ((e ≡ AddFault.NoMemory) × (add_fault (field_of field.now) ≡ None))
             ⊎ (add_fault (field_of field.now) ≡ Some e)) }
         ensures kept { OnErr result (self.new ≡ self.old) }

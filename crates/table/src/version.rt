@@ -14,7 +14,7 @@ ghost use Rattle.table.specs.Cause.{IsLegal};
 ghost use Rattle.table.specs.Book.{pair_of};
 ghost use Rattle.table.specs.Storage.{IsConsistent, show};
 ghost use Rattle.table.specs.History.{book, rows};
-ghost use Rattle.table.specs.Lawful.{EndsWithEntry, IsStored, NamesFronts, dictionaries_of, table_of};
+ghost use Rattle.table.specs.Lawful.{EndsWithEntry, IsStored, NamesFronts, dictionaries_of, rows_of_batches};
 
 use crate::entry::Entry;
 use crate::export::file_of;
@@ -102,7 +102,7 @@ impl Version {
     pub fn batches(&self) -> &[Arc<RecordBatch>]
         ensures value { map (λ b. rows_of (arc_value b)) result.now ≡ self.now.batches }
         ensures lawful { All (λ b. IsStored self.now.fields (arc_value b)) result.now }
-        ensures rows { table_of (map arc_value result.now) ≡ rows self.now.history }
+        ensures rows { rows_of_batches (map arc_value result.now) ≡ rows self.now.history }
         ensures ends { (i : ℕ) → i ≤ length result.now → EndsWithEntry (map arc_value result.now) (book self.now.history) i }
         ensures fronts { All (λ b. NamesFronts self.now.fields (rows self.now.history) (arc_value b)) result.now }
     {

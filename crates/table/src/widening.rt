@@ -10,7 +10,7 @@ ghost use Rattle.compaction.specs.Under.{pieces_of};
 ghost use Rattle.group.specs.Summary.{AreSame};
 ghost use Rattle.table.specs.Storage.{IsConsistent, show};
 ghost use Rattle.table.specs.Stored.{stored_field};
-ghost use Rattle.table.specs.Widened.{add_fault, with_field};
+ghost use Rattle.table.specs.Widened.{add_fault, with_last_field};
 ghost use Rattle.table.specs.Widening.{AreAllWider, AreWider, IsWider, with_nulls};
 
 use crate::add_fault::AddFault;
@@ -46,7 +46,7 @@ pub(crate) fn stage(alloc: Global, storage: &Storage, field: &Field) -> Result<S
     requires storage { IsConsistent storage.now }
     requires allowed { add_fault (field_of field.now) ≡ None }
     ensures lawful { IfOk result (λ h. IsConsistent h) }
-    ensures shows { IfOk result (λ h. show h ≡ with_field (show storage.now) (stored_field (field_of field.now))) }
+    ensures shows { IfOk result (λ h. show h ≡ with_last_field (show storage.now) (stored_field (field_of field.now))) }
 {
     let field = stored_one(alloc, field)?;
     storage.wider(alloc, &field)

@@ -3,7 +3,7 @@ use Rattle.std.specs.Arc.{arc_value}
 use Rattle.std.proofs.lemmas.Result.{err_from_is_err_and}
 use Rattle.arrays.specs.Batch.{Batch}
 use Rattle.query.specs.QueryShape.{query_shape}
-use Rattle.answers.specs.Answers.{all_rows, first_fields, shape_of}
+use Rattle.answers.specs.Answers.{all_rows, first_fields, group_shape}
 use Rattle.answers.specs.Groups.{is_kept}
 use Rattle.answers.proofs.GroupLemmas.{as_long}
 use Rattle.answers.proofs.ReportedLemmas.{reported_all}
@@ -41,5 +41,5 @@ returns-clause-ok g c =
     let q = c.args.query.now in
     let run = all_joined fields q (all_rows batches) c.args.pieces c.in_ok-whole.whole c.requires.one c.in_ok-whole.ensures in
     let rows = filter (is_kept fields (query_shape q).filter) (all_rows batches) in
-    is_answer fields q (all_rows batches) c.in_ok-whole.whole (map shape_of c.in_ok-groups.groups.items) run
+    is_answer fields q (all_rows batches) c.in_ok-whole.whole (map group_shape c.in_ok-groups.groups.items) run
     (c.in_ok-groups.ensures ∙ reported_all q.by.items q.aggs.items rows c.in_ok-whole.whole c.len.result c.len.ensures run.kept.0)

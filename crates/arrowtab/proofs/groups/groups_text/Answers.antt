@@ -1,5 +1,5 @@
 use Rattle.std.proofs.Common.{map}
-use Rattle.answers.specs.Answers.{shape_of}
+use Rattle.answers.specs.Answers.{group_shape}
 use Rattle.query.specs.QueryShape.{query_shape}
 use Rattle.query.specs.Resolved.{named}
 use Rattle.reports.proofs.QueryLemmas.{unanswered}
@@ -13,7 +13,7 @@ returns-in-Ok-answer_of-clause-output g c =
       placed = placed;
       resolves = c.in-Ok.ensures.ok;
       prints = record {
-        found = map shape_of c.in-Ok-answer_of.answer.groups.items;
+        found = map group_shape c.in-Ok-answer_of.answer.groups.items;
         asks = c.in-Ok-answer_of.ensures.ok placed v.fields v.history c.answer.ensures.ok;
         shows = c.in_ok-answer_text-in-Ok-answer_of.ensures;
       };

@@ -1,7 +1,7 @@
 use Rattle.std.proofs.Common.{◌≡◌, ◌∙◌, ◌++◌, List, ap, arith, drop, length, refl, subst, sym, take}
 use Rattle.std.specs.Arc.{arc_value}
 use Rattle.arrays.specs.Shape.{FieldShape, field_of}
-use Rattle.loads.specs.Loaded.{batches_of}
+use Rattle.loads.specs.Loaded.{batches_of_files}
 use Rattle.shared.specs.Hand.{Hand}
 use Rattle.table.specs.Stored.{stored_field}
 use Rattle.arrowtab.specs.Worked.{IsWidenedFirst}
@@ -23,7 +23,7 @@ unreachable-requires g c =
     let many : length fields ≡ c.len.result =
     ap (λ (fs : List FieldShape). length fs) c.requires.fields ∙ first_count files c.index-files-0.result c.requires.some c.index-files-0.is
     ∙ sym (ap (λ (fs : List FieldShape). length fs) c.schema.ensures) ∙ sym c.len.ensures in
-    none_other c.len.result fields (batches_of files) many
+    none_other c.len.result fields (batches_of_files files) many
     (all_fit files fields loaded.old c.args.hands.items v (omega (arith, c.requires.worker, loaded.many)) loaded.new loaded.loaded c.in-Ok.ensures.whole c.in-Ok.ensures.opened c.in-Ok.ensures.columns)
     (c.if-not-are_as_wide.ensures.other refl)
 

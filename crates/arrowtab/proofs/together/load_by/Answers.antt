@@ -2,7 +2,7 @@ use Rattle.std.proofs.Common.{◌≡◌, ◌∙◌, ◌+◌, ◌++◌, ◌%◌, 
 use Rattle.std.specs.Arc.{arc_value}
 use Rattle.arrays.specs.Shape.{field_of}
 use Rattle.shared.specs.Balance.{IsOfWorkers}
-use Rattle.shared.specs.Hand.{AreNew, Hand, IsWhole, columns_of_hand}
+use Rattle.shared.specs.Hand.{AreNew, Hand, HasAllItsPairs, columns_of_hand}
 use Rattle.shared.specs.Known.{known_of}
 use Rattle.std.specs.Prelude.{All, sum_by}
 use Rattle.types.specs.declared.data_type.Field.{Field}
@@ -44,7 +44,7 @@ returns-in-Ok-gather_all-clause-err g c =
     (rw c.in-Err-Refused.field-0-is at c.in-Err-Refused.ensures.err)
     (c.index.ensures ∙ ap (λ (hands : List Hand). get_or hands (c.in-Err-Refused.file % c.len.result) own) is ∙ ap (λ n. get_or new (c.in-Err-Refused.file % n) own) count)
     c.tell.ensures.part c.tell.ensures.legal
-    (subst (λ (hands : List Hand). All (IsWhole (known_of v)) hands) is c.in-Ok-gather_all.ensures.whole)
+    (subst (λ (hands : List Hand). All (HasAllItsPairs (known_of v)) hands) is c.in-Ok-gather_all.ensures.whole)
     (subst (λ n. IsOfWorkers n v.history) refl c.in-Ok-gather_all.ensures.known)
 
 pub gather_all-requires : goal.gather_all-requires

@@ -1,5 +1,5 @@
 use Rattle.std.proofs.Common.{◌∙◌, ap, map, string_bytes}
-use Rattle.answers.specs.Answers.{shape_of}
+use Rattle.answers.specs.Answers.{group_shape}
 use Rattle.embed.specs.Answer.{of_batch}
 use Rattle.query.specs.QueryShape.{query_shape}
 use Rattle.query.specs.Resolved.{named}
@@ -11,7 +11,7 @@ use Rattle.embed.proofs.answering.placed_table.Goals as goal
 pub returns-in_ok-table_of-in-Ok-clause-ok : goal.returns-in_ok-table_of-in-Ok-clause-ok
 returns-in_ok-table_of-in-Ok-clause-ok c =
     let placed = query_shape c.args.placed.now in
-    let found = map shape_of c.in-Ok.answer.groups.items in
+    let found = map group_shape c.in-Ok.answer.groups.items in
     let names = ap (map string_bytes) c.deref.ensures.value ∙ c.in_ok-names-in-Ok.ensures in
     let types = c.deref-in-Ok.ensures.value ∙ c.in_ok-types-in-Ok.ensures ∙ ap (λ fields. result_types fields placed) c.schema.ensures in
     record {

@@ -1,7 +1,7 @@
 use Rattle.std.proofs.Common.{◌∙◌, ◌+◌, ◌++◌, List, map, subst, sym, take}
 use Rattle.arrays.specs.Batch.{Batch}
 use Rattle.arrays.specs.Shape.{FieldShape}
-use Rattle.embed.specs.Loaded.{HasAdded, all_batches}
+use Rattle.embed.specs.Loaded.{AddsAll, all_batches}
 use Rattle.embed.specs.Refused.{StopsIn}
 use Rattle.reports.proofs.FileLemmas.{data_of}
 use Rattle.reports.specs.FileBatches.{batch_of}
@@ -26,7 +26,7 @@ loop-place-preserved c =
     let before = all_batches (take at.place (data_of files)) in
     let new = c.add_batches.new.table in record {
       fields = c.in-Ok.ensures.fields ∙ at.invariant.fields;
-      loaded = subst (λ (fs : List FieldShape). HasAdded (all_batches (take (at.place + 1) (data_of files))) fs new.history) (sym c.in-Ok.ensures.fields)
+      loaded = subst (λ (fs : List FieldShape). AddsAll (all_batches (take (at.place + 1) (data_of files))) fs new.history) (sym c.in-Ok.ensures.fields)
           (files-more files c.requires at.place f (file_at files at.place f c.loop-place-test.true c.index-files-place.is) at.table.fields new.history c.loop-place-test.true
-          (subst (λ (bs : List Batch). HasAdded (before ++ map batch_of bs) at.table.fields new.history) c.batches.ensures.value (c.in-Ok.ensures.loaded before at.invariant.loaded)));
+          (subst (λ (bs : List Batch). AddsAll (before ++ map batch_of bs) at.table.fields new.history) c.batches.ensures.value (c.in-Ok.ensures.loaded before at.invariant.loaded)));
     }

@@ -1,5 +1,5 @@
 use Rattle.std.proofs.Common.{◌≡◌, take}
-use Rattle.embed.specs.Loaded.{HasAdded, all_batches}
+use Rattle.embed.specs.Loaded.{AddsAll, all_batches}
 use Rattle.reports.proofs.FileLemmas.{data_of}
 use Rattle.reports.specs.FileBatches.{table_fields}
 use Rattle.embed.proofs.loading.load_files.Given as goal
@@ -8,5 +8,5 @@ use Rattle.embed.proofs.loading.load_files.Given as goal
 abbrev pub invariant-loop-place : goal.invariant-loop-place
 invariant-loop-place l = record {
   fields : l.table.fields ≡ table_fields (data_of l.files);
-  loaded : HasAdded (all_batches (take l.place (data_of l.files))) l.table.fields l.table.history;
+  loaded : AddsAll (all_batches (take l.place (data_of l.files))) l.table.fields l.table.history;
 }

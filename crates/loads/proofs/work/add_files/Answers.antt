@@ -3,7 +3,7 @@ use Rattle.std.proofs.lemmas.List.{length-map}
 use Rattle.std.specs.Arc.{arc_value}
 use Rattle.arrays.specs.File.{File}
 use Rattle.shared.specs.Hand.{Hand, calls_of_hand}
-use Rattle.loads.specs.Loaded.{Loaded, batches_of}
+use Rattle.loads.specs.Loaded.{Loaded, batches_of_files}
 use Rattle.loads.specs.Plan.{planned}
 use Rattle.loads.proofs.LoadLemmas.{batches_at, is_stopped, last_moved, loaded_file, loaded_other, loaded_stopped, mapped_length, newest_moved}
 use Rattle.loads.proofs.work.add_files.Goals as goal
@@ -11,7 +11,7 @@ use Rattle.loads.proofs.work.add_files.Goals.{then-number-count+in_default, else
 
 pub loop-number-preserved : goal.loop-number-preserved
 loop-number-preserved g c =
-    let files = batches_of c.args.files.now in
+    let files = batches_of_files c.args.files.now in
     let n = c.loop-number.number in
     let old = c.args.worker.now in
     let mid = c.loop-number.worker in
@@ -43,7 +43,7 @@ loop-number-preserved g c =
 
 pub returns-in-Err-clause-stopped : goal.returns-in-Err-clause-stopped
 returns-in-Err-clause-stopped g c =
-    let files = batches_of c.args.files.now in
+    let files = batches_of_files c.args.files.now in
     let n = c.loop-number.number in
     let bs = map arc_value c.batches.result.now in
     let below : n < length files = omega (arith, c.loop-number-test.true, length-map c.args.files.now (λ (f : File). f.batches)) in
@@ -53,7 +53,7 @@ returns-in-Err-clause-stopped g c =
 
 pub returns-in-Err-clause-loaded : goal.returns-in-Err-clause-loaded
 returns-in-Err-clause-loaded g c =
-    let files = batches_of c.args.files.now in
+    let files = batches_of_files c.args.files.now in
     let n = c.loop-number.number in
     let bs = map arc_value c.batches.result.now in
     let at = batches_at c.args.files.now n c.index-files-number.result bs c.loop-number-test.true c.index-files-number.is c.batches.ensures.value in

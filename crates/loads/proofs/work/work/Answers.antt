@@ -1,7 +1,7 @@
 use Rattle.std.proofs.Common.{◌∙◌, ℕ, Some, ap, subst}
 use Rattle.shared.specs.Hand.{calls_of_hand}
 use Rattle.shared.specs.Left.{Left}
-use Rattle.loads.specs.Loaded.{HasLast, batches_of}
+use Rattle.loads.specs.Loaded.{HasLast, batches_of_files}
 use Rattle.loads.proofs.RunLemmas.{run_left}
 use Rattle.loads.proofs.work.work.Goals as goal
 
@@ -14,7 +14,7 @@ returns g c =
     record {
       outcome = outcome;
       left = c.leave.ensures.rest ∙ ap (λ (o : Left). Some o) c.new.ensures;
-      run = run_left (batches_of c.args.files.now) c.args.count c.args.place c.args.worker.now mid c.leave.new.self outcome (Some c.new.result)
+      run = run_left (batches_of_files c.args.files.now) c.args.count c.args.place c.args.worker.now mid c.leave.new.self outcome (Some c.new.result)
           (record {
             stopped = added.stopped;
             loaded = added.loaded;

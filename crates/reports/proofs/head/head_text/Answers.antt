@@ -6,7 +6,7 @@ use Rattle.std.proofs.lemmas.List.{get_or-map, length-map, take_all, take_more}
 use Rattle.arrays.specs.Batch.{Batch, Table, rows_of}
 use Rattle.arrays.specs.Shape.{FieldShape, fields_of}
 use Rattle.table.specs.History.{rows}
-use Rattle.table.specs.Lawful.{IsStored, table_of}
+use Rattle.table.specs.Lawful.{IsStored, rows_of_batches}
 use Rattle.reports.specs.Rows.{row_line}
 use Rattle.reports.proofs.RowLemmas.{left_more, rows_more}
 use Rattle.reports.proofs.head.head_text.Goals as goal
@@ -29,11 +29,11 @@ loop-batch-preserved c =
     let b : Batch = c.deref.result.now in
     let count = c.args.count in
     let line = row_line (fields_of c.fields-fields.result.now) in
-    let past : Table = table_of (take n bs) in
+    let past : Table = rows_of_batches (take n bs) in
     let below : n < length given = omega arith in
     let at : get_or bs n b ≡ b = get_or-map arc_value given n item b below ∙ ap arc_value (sym c.batch-item.is) ∙ sym c.deref.ensures in
-    let next : table_of (take (n + 1) bs) ≡ past ++ rows_of b =
-    ap table_of (take_more bs n b (omega (arith, below, length-map given arc_value)) ∙ ap (λ (x : Batch). take n bs ++ x ∷ []) at)
+    let next : rows_of_batches (take (n + 1) bs) ≡ past ++ rows_of b =
+    ap rows_of_batches (take_more bs n b (omega (arith, below, length-map given arc_value)) ∙ ap (λ (x : Batch). take n bs ++ x ∷ []) at)
     ∙ flat_map-append rows_of (take n bs) (b ∷ []) ∙ ap (λ (t : Table). past ++ t) (append-nil (rows_of b)) in
     let so_far = c.loop-batch.invariant in (
       rows_more line count c.loop-batch.left past (rows_of b) (string_bytes c.loop-batch.text) (string_bytes c.push_first_rows.new.text) so_far.0 so_far.1 c.in_ok-left.ensures.lines
@@ -52,5 +52,5 @@ returns c =
     let same : fields_of c.fields-fields.result.now ≡ v.fields = c.fields-fields.ensures.value ∙ c.schema.ensures in
     let all : length bs ≤ n = omega (arith, c.loop-batch-test.false, length-map given arc_value) in
     c.loop-batch.invariant.0
-    ∙ ap (λ (t : Table). flat_map line (take count t)) (ap table_of (take_all n bs all) ∙ c.batches-batches.ensures.rows)
+    ∙ ap (λ (t : Table). flat_map line (take count t)) (ap rows_of_batches (take_all n bs all) ∙ c.batches-batches.ensures.rows)
     ∙ ap (λ (fs : List FieldShape). flat_map (row_line fs) (take count (rows v.history))) same

@@ -1,9 +1,9 @@
 use Rattle.std.proofs.Common.{◌≡◌, map, take}
-use Rattle.answers.specs.Answers.{shape_of}
+use Rattle.answers.specs.Answers.{group_shape}
 use Rattle.results.specs.Cell.{only_of}
 use Rattle.results.specs.Result.{item_at}
 use Rattle.results.specs.declared.result_type.ResultType.TheVariants.{Bool}
 use Rattle.results.proofs.column.bool_column.Given as goal
 
 abbrev pub invariant-loop-group : goal.invariant-loop-group
-invariant-loop-group l = l.truths ≡ map (only_of Bool) (map (item_at l.place) (map shape_of (take l.group-index l.groups)))
+invariant-loop-group l = l.truths ≡ map (only_of Bool) (map (item_at l.place) (map group_shape (take l.group-index l.groups)))

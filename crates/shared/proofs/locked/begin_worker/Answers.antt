@@ -1,7 +1,7 @@
 use Rattle.std.proofs.Common.{subst}
 use Rattle.shared.specs.Changes.{known_after}
 use Rattle.shared.specs.Hand.{Hand}
-use Rattle.shared.specs.Known.{Begins}
+use Rattle.shared.specs.Known.{IsBeginning}
 use Rattle.shared.proofs.KnownLemmas.{known_begins}
 use Rattle.shared.proofs.PartLemmas.{part_more}
 use Rattle.shared.proofs.locked.begin_worker.Goals as goal
@@ -10,6 +10,6 @@ pub returns : goal.returns
 returns g c =
     let first = g.N.Naming-1.fields in
     let known = known_after first c.args.front.now in
-    let begun : Begins c.args.worker.now.seen known =
-    subst (λ (h : Hand). Begins h.seen known) c.worker.view_is (known_begins first c.worker.inside.seen c.args.front.now c.begin.ensures) in
+    let begun : IsBeginning c.args.worker.now.seen known =
+    subst (λ (h : Hand). IsBeginning h.seen known) c.worker.view_is (known_begins first c.worker.inside.seen c.args.front.now c.begin.ensures) in
     part_more g.N.Naming-1.workers c.args.worker.now.seen known c.args.worker.now c.tell.ensures.part begun

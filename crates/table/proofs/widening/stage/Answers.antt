@@ -4,7 +4,7 @@ use Rattle.arrays.specs.Shape.{FieldShape, field_of, is_nullable, kind_of_field}
 use Rattle.types.proofs.ShapeLemmas.{kind_of_field-field_of}
 use Rattle.table.specs.Contents.{Contents}
 use Rattle.table.specs.Storage.{show}
-use Rattle.table.specs.Widened.{with_field}
+use Rattle.table.specs.Widened.{with_last_field}
 use Rattle.table.specs.declared.storage.Storage.{Storage}
 use Rattle.table.proofs.AddLemmas.{fits-stored}
 use Rattle.table.proofs.PutLemmas.{if-ok}
@@ -35,4 +35,4 @@ returns-clause-shows c =
     let f = field_of c.in_ok-field.field in
     let fits = fits-stored (field_of c.args.field.now) c.requires.allowed in
     let nullable : is_nullable f ≡ true = ap is_nullable c.in_ok-field.ensures ∙ fits.nullable in
-    if-ok (λ (h : Storage) wide. ◌∙◌ {A = Contents} (wider-shows storage h f nullable c.requires.storage wide) (ap (λ (g : FieldShape). with_field (show storage) g) c.in_ok-field.ensures)) c.wider.result c.wider.ensures
+    if-ok (λ (h : Storage) wide. ◌∙◌ {A = Contents} (wider-shows storage h f nullable c.requires.storage wide) (ap (λ (g : FieldShape). with_last_field (show storage) g) c.in_ok-field.ensures)) c.wider.result c.wider.ensures

@@ -7,7 +7,7 @@ use Rattle.query.specs.Columns.{sort_at}
 use Rattle.query.specs.Fault.{agg_fault, key_fault}
 use Rattle.tallies.specs.Columns.{column_of, show_column}
 use Rattle.tallies.specs.Columns.{IsColumnOf}
-use Rattle.answers.specs.Grouping.{tables_of}
+use Rattle.answers.specs.Grouping.{key_tables}
 use Rattle.keys.specs.Keys.{key_of}
 use Rattle.answers.specs.Groups.{rows_of_key}
 use Rattle.keys.specs.Keys.{AreIds, keys_at, with_keys}
@@ -32,7 +32,7 @@ add_to_columns-requires-clause-fits c =
     let q = c.args.query.now in
     let g = c.args.self.now in
     subst (All (λ (t : TallyColumn). agg_fault (sort_at c.args.batch.now.fields) (show_column t).agg ≡ None)) (sym c.deref_mut.ensures.value)
-    (columns_fit (λ a. agg_fault (sort_at c.args.batch.now.fields) a ≡ None) (tables_of q.by.items r.0 g.keys) q.aggs.items g.columns.items r.2.0.columns_are
+    (columns_fit (λ a. agg_fault (sort_at c.args.batch.now.fields) a ≡ None) (key_tables q.by.items r.0 g.keys) q.aggs.items g.columns.items r.2.0.columns_are
     (what_fits c.args.batch.now.fields (query_shape q) c.requires.fits).aggs)
 
 pub add_to_columns-requires-clause-lengths : goal.add_to_columns-requires-clause-lengths
@@ -61,7 +61,7 @@ add_to_columns-requires-clause-few c =
     let r = c.requires.room in
     let q = c.args.query.now in
     let g = c.args.self.now in
-    let tables = tables_of q.by.items r.0 g.keys in
+    let tables = key_tables q.by.items r.0 g.keys in
     let wanted = keys_at c.as_slice-by.result.now c.args.batch.now.columns c.args.rows.now in
     let more = grown g.keys wanted in
     let few : length tables ≤ c.len-groups.result =
@@ -92,7 +92,7 @@ returns-clause-groups c = λ before h.
     let rows = c.args.rows.now in
     let more : List Row = map (row_of columns) rows in
     let changed = c.add_to_columns.new.columns in
-    let tables = tables_of by before g.keys in
+    let tables = key_tables by before g.keys in
     let keyed : keys_at c.as_slice-by.result.now columns rows ≡ map (key_of by) more =
     ap (λ b. keys_at b columns rows) c.as_slice-by.ensures.value ∙ sym (mapped (key_of by) (row_of columns) rows) in
     let is : new ≡ with_keys g.keys (map (key_of by) more) = c.in_ok-intern_rows.ensures.keys ∙ ap (λ l. with_keys g.keys l) keyed in

@@ -5,7 +5,7 @@ use Rattle.std.proofs.lemmas.List.Elements.{All-weaker}
 use Rattle.arrays.specs.Batch.{Table}
 use Rattle.tallies.specs.Columns.{column_of, show_column}
 use Rattle.tallies.specs.Columns.{IsColumnOf}
-use Rattle.answers.specs.Grouping.{tables_of}
+use Rattle.answers.specs.Grouping.{key_tables}
 use Rattle.answers.specs.Groups.{rows_of_key}
 use Rattle.keys.specs.Keys.{with_keys}
 use Rattle.keys.specs.Memo.{Remembers}
@@ -28,7 +28,7 @@ join_columns-requires-clause-same c =
     let g = c.args.self.now in
     let o = c.args.other in
     ap (map (λ (t : TallyColumn). (show_column t).agg)) c.deref.ensures.value
-    ∙ same_aggs_twice (tables_of q.by.items r.2 g.keys) (tables_of q.by.items r.3 o.keys) q.aggs.items g.columns.items o.columns.items r.5.0.columns_are r.6.0.columns_are
+    ∙ same_aggs_twice (key_tables q.by.items r.2 g.keys) (key_tables q.by.items r.3 o.keys) q.aggs.items g.columns.items o.columns.items r.5.0.columns_are r.6.0.columns_are
     ∙ ap (map (λ (t : TallyColumn). (show_column t).agg)) (sym c.deref_mut.ensures.value)
 
 pub join_columns-requires-clause-inside : goal.join_columns-requires-clause-inside
@@ -51,14 +51,14 @@ join_columns-requires-clause-few c =
     let o = c.args.other in
     let new = c.intern_keys.new.keys in
     let ids = c.intern_keys.new.ids.items in
-    let tables = tables_of by rows g.keys in
-    let others = tables_of by more o.keys in
+    let tables = key_tables by rows g.keys in
+    let others = key_tables by more o.keys in
     let grows = grown g.keys o.keys in
     let few : length tables ≤ c.len-groups.result =
     omega (arith, c.len-groups.ensures, ap length c.in_ok-intern_keys.ensures.keys, ap length grows.is, length-append g.keys grows.extra, length-map g.keys (rows_of_key by rows)) in
     let count : length others ≡ length c.deref-2.result.now =
     omega (arith, ap length c.deref-2.ensures.value, length-ids new o.keys ids c.in_ok-intern_keys.ensures.ids, length-map o.keys (rows_of_key by more)) in
-    let spreads : spread_all c.deref-2.result.now others (padded c.len-groups.result [] tables) ≡ tables_of by (rows ++ more) new =
+    let spreads : spread_all c.deref-2.result.now others (padded c.len-groups.result [] tables) ≡ key_tables by (rows ++ more) new =
     ap (λ ns. spread_all ns others (padded c.len-groups.result [] tables)) c.deref-2.ensures.value
     ∙ ap (λ m. spread_all ids others (padded m [] tables)) c.len-groups.ensures
     ∙ spread_tables by aggs rows more g.keys o.keys new _ _ ids r.5.0 r.6.0 c.in_ok-intern_keys.ensures.keys c.in_ok-intern_keys.ensures.ids in (
@@ -74,7 +74,7 @@ join_columns-requires-clause-few c =
       few,
       count,
       subst (All (λ (t : Table). length t ≤ 2 ^ 40)) (sym spreads)
-          (All-weaker (λ (t : Table). length t + 0 ≤ 2 ^ 40) (λ (t : Table). length t ≤ 2 ^ 40) (λ t h. omega (arith, h)) (tables_of by (rows ++ more) new)
+          (All-weaker (λ (t : Table). length t + 0 ≤ 2 ^ 40) (λ (t : Table). length t ≤ 2 ^ 40) (λ t h. omega (arith, h)) (key_tables by (rows ++ more) new)
           (tables_short by (rows ++ more) new 0 (2 ^ 40) (omega (arith, r.4, length-append rows more)))),
     )
 
@@ -91,8 +91,8 @@ returns c = λ q kinds rows more h k are others_are.
     let cs = g.columns.items in
     let new = c.intern_keys.new.keys in
     let ids = c.intern_keys.new.ids.items in
-    let tables = tables_of by rows g.keys in
-    let others = tables_of by more o.keys in
+    let tables = key_tables by rows g.keys in
+    let others = key_tables by more o.keys in
     let changed = c.join_columns.new.columns in
     let count = c.join_columns.auto.columns ∙ ap length c.deref_mut.ensures.value in
     let is : new ≡ with_keys g.keys o.keys = c.in_ok-intern_keys.ensures.keys in

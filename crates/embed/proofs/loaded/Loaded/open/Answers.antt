@@ -1,6 +1,6 @@
 use Rattle.std.proofs.Common.{Bor, List, map, subst, sym, ℕ}
 use Rattle.arrays.specs.File.{File}
-use Rattle.embed.specs.Refused.{StopsLoading}
+use Rattle.embed.specs.Refused.{StopsFiles}
 use Rattle.reports.proofs.FileLemmas.{AreKept, data_of}
 use Rattle.reports.proofs.ParseLemmas.{texts_under}
 use Rattle.embed.proofs.LoadLemmas.{all_loaded, loading_stops}
@@ -20,4 +20,4 @@ pub returns-in-Ok-clause-err : goal.returns-in-Ok-clause-err
 returns-in-Ok-clause-err c =
     let fault = c.in-Err-load_files.fault in
     loading_stops (map (λ (t : Bor (List ℕ)). t.now) c.args.texts.now) c.in-Ok.files.items fault c.in-Ok.ensures.ok
-    (subst (λ (fs : List File). StopsLoading (data_of fs) fault) c.deref.ensures.value c.in-Err-load_files.ensures.err)
+    (subst (λ (fs : List File). StopsFiles (data_of fs) fault) c.deref.ensures.value c.in-Err-load_files.ensures.err)

@@ -9,14 +9,14 @@ use Rattle.std.proofs.Crossing.{crosses}
 use Rattle.table.proofs.SendingLemmas.{version-send}
 use Rattle.embed.specs.contracts.snapshot.Snapshot as snapshot
 use Rattle.embed.specs.declared.snapshot.Snapshot.{Snapshot}
-use Rattle.selqumar.specs.SnapshotSlot.{owned_at}
+use Rattle.selqumar.specs.SnapshotSlot.{owns_snapshot}
 use Rattle.selqumar.specs.contracts.snapshot_slot.SnapshotSlot as slot
 use Rattle.selqumar.proofs.SendingLemmas.{boxed_keyless, pointer-send, quiet}
 
 held-send : IsSend snapshot.the_row
 held-send = search (version-send, crosses, sendable) depth 40
 
-owned : (p : Ptr) (t : Option Snapshot) → Keyless (owned_at p t)
+owned : (p : Ptr) (t : Option Snapshot) → Keyless (owns_snapshot p t)
 owned p None = tt
 owned p (Some x) = boxed_keyless snapshot.the_row held-send p x
 

@@ -31,7 +31,7 @@ use Rattle.std.proofs.alloc.Shapes.{after}
 use Rattle.std.proofs.raw_atomic.Walks.{proved}
 use Rattle.selqumar.specs.Boxed.{is_boxed}
 use Rattle.selqumar.specs.Follows.{with_snapshot}
-use Rattle.selqumar.specs.SnapshotSlot.{owned_at}
+use Rattle.selqumar.specs.SnapshotSlot.{owns_snapshot}
 use Rattle.embed.specs.declared.snapshot.Snapshot.{Snapshot}
 use Rattle.selqumar.specs.declared.snapshot_slot.SnapshotSlot.{SnapshotSlot}
 use Rattle.embed.specs.contracts.snapshot.Snapshot as snapshot
@@ -81,7 +81,7 @@ get_mut_spec 𝓤 𝓛 𝓜 𝓡 wired =
     enter ! 𝓣.C 𝓣.Λ fn (vptr rb ro ∷ []) Post $ alloc_all ! (λ l. pass_all ! refl ((tt, tt), tt) $ let Ev : Env 𝓤 H = env fn.locals l in
     split ! $ move ! (1 ∷ []) $ fsplit ! $ fsplit3 ! $ drop ! $ move ! (3 ∷ []) $ split ! $ move ! (2 ∷ 3 ∷ 0 ∷ []) $
     opens ! tt S {h = d} rb ro (λ vs. move ! (1 ∷ []) $ fsplit ! $ one_out ! d.pointer vs (λ is.
-    rewrite ! 0 (λ (t : Option Snapshot). ‵ (owned_at d.pointer t)) x.1 refl $
+    rewrite ! 0 (λ (t : Option Snapshot). ‵ (owns_snapshot d.pointer t)) x.1 refl $
     in_a_block ! d.pointer (λ p. is_boxed T p x.0) (fst∗ 𝓤 (never 𝓤) (sem 𝓛 (token null_ptr))) (λ b o at. fsplit ! $
     -- [the snapshot; the token; the slot's words; the open borrow; obs; auth; ..]
     rewrite ! 2 (λ (us : List Val). ‵ (cell_at full_share S.mir us rb ro)) is refl $ rewrite ! 2 (λ (p : Ptr). ‵ (cell_at full_share S.mir (one p ∷ []) rb ro)) at refl $

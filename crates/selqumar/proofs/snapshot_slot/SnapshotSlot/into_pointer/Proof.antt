@@ -18,7 +18,7 @@ use denote.Triple.Walked.{Stays, stay_dropped, walk_of, Goes-dropped}
 use Rattle.std.specs.Prelude.{Option, None, Some}
 use Rattle.std.proofs.raw_atomic.Walks.{proved_at, leaves}
 use Rattle.selqumar.specs.Boxed.{is_boxed}
-use Rattle.selqumar.specs.SnapshotSlot.{owned_at}
+use Rattle.selqumar.specs.SnapshotSlot.{owns_snapshot}
 use Rattle.embed.specs.declared.snapshot.Snapshot.{Snapshot}
 use Rattle.embed.specs.contracts.snapshot.Snapshot as snapshot
 use Rattle.selqumar.specs.contracts.snapshot_slot.SnapshotSlot as slot
@@ -41,7 +41,7 @@ into_pointer_spec 𝓤 𝓛 𝓜 𝓡 wired =
     let Post : Val → SProp 𝓤 = (walk_of 𝓛 En hs c).post z in let Run : List Val → SProp 𝓤 = λ ws. WpFn 𝓤 H 𝓣.C 𝓣.Λ fn ws Post in
     qed 𝓛 ((raw (alive 𝓛 En.signature κs z.0.1) ⊛ ‵ (owns (types_at En.signature.params κs) z.0.3 z.0.4)) ∷ raw (fact 𝓤 (s.snapshot ≢ None)) ∷ []) ∵
     move ! (1 ∷ []) $ heard ! (s.snapshot ≢ None) (λ there. let x = some_of s.snapshot there in split ! $ move ! (1 ∷ []) $ fsplit ! $ fsplit ! $ one_out ! p z.0.4.0 (λ is.
-    rewrite ! 0 (λ (t : Option Snapshot). ‵ (owned_at p t)) x.1 refl $
+    rewrite ! 0 (λ (t : Option Snapshot). ‵ (owns_snapshot p t)) x.1 refl $
     suffices ! (Run (one p ∷ [])) (subst (λ (us : List Val). ent 𝓤 (Run (one p ∷ [])) (Run us)) (sym (λ i. is i ++ [])) (id⊢ 𝓤 (Run (one p ∷ [])))) $
     enter ! 𝓣.C 𝓣.Λ fn (one p ∷ []) Post $ alloc_all ! (λ l. pass_all ! refl (one_good p, tt) $
     sets ! (of_opd ! (get_in ! (fld ! refl (stop !)) (sub ! 0 refl (whole !)))) refl (pointer_good p) $ sets ! (of_opd ! (get ! refl)) refl (pointer_good p) $

@@ -17,7 +17,7 @@ use denote.Triple.Entry.{alive}
 use denote.Triple.Walked.{Stays, stay_dropped, walk_of, Goes-dropped}
 use Rattle.std.specs.Prelude.{Option, Some}
 use Rattle.std.proofs.raw_atomic.Walks.{proved_at, leaves}
-use Rattle.selqumar.specs.SnapshotSlot.{owned_at}
+use Rattle.selqumar.specs.SnapshotSlot.{owns_snapshot}
 use Rattle.embed.specs.declared.snapshot.Snapshot.{Snapshot}
 use Rattle.embed.specs.contracts.snapshot.Snapshot as snapshot
 use Rattle.selqumar.specs.contracts.boxed.BoxPointer as pointer
@@ -38,7 +38,7 @@ of_spec 𝓤 𝓛 𝓜 𝓡 wired =
     suffices ! (Run (one p ∷ [])) (subst (λ (us : List Val). ent 𝓤 (Run (one p ∷ [])) (Run us)) (sym (λ i. is i ++ [])) (id⊢ 𝓤 (Run (one p ∷ [])))) $
     enter ! 𝓣.C 𝓣.Λ fn (one p ∷ []) Post $ alloc_all ! (λ l. pass_all ! refl (one_good p, tt) $
     sets ! (of_opd ! (get_in ! (fld ! refl (stop !)) (sub ! 0 refl (whole !)))) refl (pointer_good p) $ sets ! (of_opd ! (get ! refl)) refl (pointer_good p) $
-    sets ! (agg ! (and_then ! (get ! refl) (no_more !))) refl (one_good p) $ use1 𝓛 (‵ (owned_at p x)) (id⊢ 𝓤 _) $ one_in ! p $ fjoin ! $
+    sets ! (agg ! (and_then ! (get ! refl) (no_more !))) refl (one_good p) $ use1 𝓛 (‵ (owns_snapshot p x)) (id⊢ 𝓤 _) $ one_in ! p $ fjoin ! $
     use0 𝓛 (raw (fact 𝓤 (x ≡ x))) (fact_i 𝓤 (x ≡ x) (emp 𝓤) refl) $ nothing ! $ nothing ! $ fjoin ! $
     -- [what is left of the parameter; the fact; the slot; nothing; the tokens]
     returns ! (look_at ! 0 refl) $ free_all ! refl $ keep ! (4 ∷ 0 ∷ 2 ∷ 1 ∷ []) $ by ! (leaves 𝓛 En hs c z (one p) (record { pointer = p; snapshot = x }) (_, tt) (tt, tt)))))

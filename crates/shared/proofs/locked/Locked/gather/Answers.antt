@@ -1,7 +1,7 @@
 use Rattle.std.proofs.Common.{arith, subst}
 use mathlib.Core.List.{IsPrefix}
 use Rattle.std.specs.Prelude.{All}
-use Rattle.shared.specs.Hand.{IsPartOf, IsWhole}
+use Rattle.shared.specs.Hand.{IsWorkerOf, HasAllItsPairs}
 use Rattle.shared.specs.Known.{Known, known_of}
 use Rattle.shared.proofs.KnownLemmas.{opened_first}
 use Rattle.shared.proofs.PartLemmas.{all_whole}
@@ -15,10 +15,10 @@ returns-clause-whole g c =
     let count = g.N.Naming-1.workers in
     let totals = c.tell_totals.ensures in
     let workers = c.args.workers.now in
-    let parts : All (IsPartOf count known) workers =
-    subst (λ ws. All (IsPartOf count known) ws) totals.workers (subst (λ (k : Known). All (IsPartOf count k) c.tell_totals.new.workers) is.counted.shown.known c.begin_all.ensures) in
+    let parts : All (IsWorkerOf count known) workers =
+    subst (λ ws. All (IsWorkerOf count known) ws) totals.workers (subst (λ (k : Known). All (IsWorkerOf count k) c.tell_totals.new.workers) is.counted.shown.known c.begin_all.ensures) in
     let whole = all_whole count known workers is.counted.shown.workers c.requires.all (omega (arith, totals.few, is.no_call_part)) parts (omega (arith, totals.call_total, is.no_calls, is.counted.balanced.pairs)) in
-    subst (λ (s : Contents). All (IsWhole (known_of s)) workers) c.self.view_is whole
+    subst (λ (s : Contents). All (HasAllItsPairs (known_of s)) workers) c.self.view_is whole
 
 pub returns-clause-opened : goal.returns-clause-opened
 returns-clause-opened g c =

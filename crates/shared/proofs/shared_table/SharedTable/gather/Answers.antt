@@ -1,13 +1,13 @@
 use Rattle.std.proofs.Common.{◌∙◌, subst, sym}
 use Rattle.std.specs.Prelude.{All}
-use Rattle.shared.specs.Hand.{IsWhole}
+use Rattle.shared.specs.Hand.{HasAllItsPairs}
 use Rattle.shared.specs.Known.{known_of}
 use Rattle.shared.specs.Missing.{AllThere}
 use Rattle.std.specs.Arc.{arc_value}
 use Rattle.shared.proofs.shared_table.SharedTable.gather.Goals as goal
 
 pub returns-in-Ok-clause-whole : goal.returns-in-Ok-clause-whole
-returns-in-Ok-clause-whole g c = subst (λ ws. All (IsWhole (known_of (arc_value c.in-Ok.version))) ws) c.deref_mut.ensures.value c.in-Ok.ensures.whole
+returns-in-Ok-clause-whole g c = subst (λ ws. All (HasAllItsPairs (known_of (arc_value c.in-Ok.version))) ws) c.deref_mut.ensures.value c.in-Ok.ensures.whole
 
 pub all_of-requires-clause-all : goal.all_of-requires-clause-all
 all_of-requires-clause-all g c =

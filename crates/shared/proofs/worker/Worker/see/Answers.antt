@@ -1,7 +1,7 @@
 use Rattle.std.proofs.Common.{List, ap, length, subst, sym, ◌∙◌}
 use Rattle.shared.specs.Changes.{Change, fields_after, known_after, pairs_in}
 use Rattle.shared.specs.Hand.{Hand, having_seen}
-use Rattle.shared.specs.Known.{Begins, IsLegalKnown}
+use Rattle.shared.specs.Known.{IsBeginning, IsLegalKnown}
 use Rattle.shared.specs.Parts.{InOrder}
 use Rattle.shared.proofs.KnownLemmas.{known_begins}
 use Rattle.shared.proofs.PartLemmas.{part_wider}
@@ -16,7 +16,7 @@ invariant_of-self g c =
     let w = c.self.inside in
     let first = g.N.Naming-1.fields in
     let front = c.args.front.now in
-    let begun : Begins (known_after first w.seen) (known_after first front) = known_begins first w.seen front c.begin.ensures in record {
+    let begun : IsBeginning (known_after first w.seen) (known_after first front) = known_begins first w.seen front c.begin.ensures in record {
       call_count = is.call_count;
       row_count = is.row_count;
       column_count = is.column_count;
@@ -34,7 +34,7 @@ invariant_of-self g c =
 pub returns-clause-begun : goal.returns-clause-begun
 returns-clause-begun g c =
     let first = g.N.Naming-1.fields in
-    subst (λ (h : Hand). Begins h.seen (known_after first c.args.front.now)) c.self.view_is (known_begins first c.self.inside.seen c.args.front.now c.begin.ensures)
+    subst (λ (h : Hand). IsBeginning h.seen (known_after first c.args.front.now)) c.self.view_is (known_begins first c.self.inside.seen c.args.front.now c.begin.ensures)
 
 pub returns-clause-seen : goal.returns-clause-seen
 returns-clause-seen g c =

@@ -1,7 +1,7 @@
 use Rattle.std.proofs.Common.{◌≡◌, arith, length, subst}
 use mathlib.Core.List.{IsPrefix}
 use Rattle.shared.specs.Changes.{fields_after, pairs_in}
-use Rattle.shared.specs.Hand.{Hand, IsPartOf}
+use Rattle.shared.specs.Hand.{Hand, IsWorkerOf}
 use Rattle.shared.proofs.KnownLemmas.{opened_first}
 use Rattle.shared.proofs.ViewLemmas.{own_part}
 use Rattle.table.specs.Widened.{widened}
@@ -15,7 +15,7 @@ pub returns-clause-part : goal.returns-clause-part
 returns-clause-part g c =
     let is = c.self.invariant in
     let w = c.self.inside in
-    subst (λ (h : Hand). IsPartOf g.N.Naming-1.workers h.seen h) c.self.view_is (own_part g.N.Naming-1.workers g.N.Naming-1.fields w.number w.seen w.mine w.column_count w.left is.number is.legal is.order)
+    subst (λ (h : Hand). IsWorkerOf g.N.Naming-1.workers h.seen h) c.self.view_is (own_part g.N.Naming-1.workers g.N.Naming-1.fields w.number w.seen w.mine w.column_count w.left is.number is.legal is.order)
 
 pub returns-clause-wide : goal.returns-clause-wide
 returns-clause-wide g c =

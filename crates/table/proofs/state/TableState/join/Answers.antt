@@ -1,12 +1,12 @@
 use Rattle.table.specs.Storage.{batches_of}
-use Rattle.table.specs.Lawful.{table_of}
+use Rattle.table.specs.Lawful.{rows_of_batches}
 use Rattle.table.proofs.JoinedLemmas.{after-commit, compacted-table, texts-begin}
 use Rattle.table.proofs.PutLemmas.{Storage-same}
 use Rattle.table.proofs.state.TableState.join.Goals as goal
 
 pub commit-requires-clause-begun : goal.commit-requires-clause-begun
 commit-requires-clause-begun g c =
-    texts-begin c.self.inside.storage (table_of (batches_of c.self.inside.storage)) c.self.inside.pools.items c.self.invariant.texts
+    texts-begin c.self.inside.storage (rows_of_batches (batches_of c.self.inside.storage)) c.self.inside.pools.items c.self.invariant.texts
 
 pub commit-requires-clause-lawful : goal.commit-requires-clause-lawful
 commit-requires-clause-lawful g c = λ h next. Storage-same c.in_ok-next.next h next c.in_ok-next.ensures.lawful

@@ -3,7 +3,7 @@ use Rattle.std.specs.declared.alloc.Global.{Global}
 use Rattle.std.specs.declared.vec.Vec.{Vec}
 use Rattle.arrays.specs.Shape.{field_of}
 use Rattle.table.specs.Storage.{batches_of}
-use Rattle.table.specs.Lawful.{table_of}
+use Rattle.table.specs.Lawful.{rows_of_batches}
 use Rattle.table.specs.Ready.{BeginWithTexts}
 use Rattle.table.specs.Stored.{stored_field}
 use Rattle.table.proofs.JoinedLemmas.{texts-begin}
@@ -13,7 +13,7 @@ use Rattle.table.proofs.state.TableState.widen.Goals as goal
 pub commit-requires-clause-begun : goal.commit-requires-clause-begun
 commit-requires-clause-begun g c =
     let h = c.self.inside.storage in
-    subst (BeginWithTexts h (table_of (batches_of h))) (sym c.reserve.ensures.items) (texts-begin h (table_of (batches_of h)) c.self.inside.pools.items c.self.invariant.texts)
+    subst (BeginWithTexts h (rows_of_batches (batches_of h))) (sym c.reserve.ensures.items) (texts-begin h (rows_of_batches (batches_of h)) c.self.inside.pools.items c.self.invariant.texts)
 
 pub invariant_of-self-2 : goal.invariant_of-self-2
 invariant_of-self-2 g c =

@@ -12,7 +12,7 @@ use Rattle.table.specs.Contents.{Contents}
 use Rattle.table.specs.Storage.{batches_of, book_of, dictionaries_in}
 use Rattle.table.specs.History.{book, rows}
 use Rattle.compaction.specs.Under.{NamesFront}
-use Rattle.table.specs.Lawful.{EndsWithEntry, IsStored, NamesFronts, dictionaries_of, table_of}
+use Rattle.table.specs.Lawful.{EndsWithEntry, IsStored, NamesFronts, dictionaries_of, rows_of_batches}
 use Rattle.table.proofs.StorageLemmas.{all-of-map, book-shown, rows-shown}
 use Rattle.table.proofs.version.Version.batches.Goals as goal
 
@@ -34,7 +34,7 @@ returns-clause-lawful c =
 
 pub returns-clause-rows : goal.returns-clause-rows
 returns-clause-rows c =
-    ap (λ (l : List Shared). table_of (map (λ (b : Shared). arc_value b) l)) c.deref.ensures.value
+    ap (λ (l : List Shared). rows_of_batches (map (λ (b : Shared). arc_value b) l)) c.deref.ensures.value
     ∙ sym (rows-shown c.storage.result.now c.storage.ensures.lawful)
     ∙ ap (λ (s : Contents). rows s.history) c.storage.ensures.shown
 
