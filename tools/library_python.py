@@ -12,6 +12,7 @@ import signal
 import subprocess
 import sys
 import typing
+import weakref
 
 from refusals import TOP
 
@@ -226,19 +227,32 @@ def table_cases(selqumar, data):
 
 def interrupted(selqumar, file, delay):
     """Whether an open is interrupted after so many seconds. What it opened, nobody has."""
-    def interrupt(*_):
-        raise KeyboardInterrupt
+    def interrupt(_, frame):
+        # Python passes over what is raised while a finalizer runs, and the finalizer ends there: a table stays open then until the process ends.
+        if is_in_finalizer(frame):
+            signal.setitimer(signal.ITIMER_REAL, 0.001)
+        else:
+            raise KeyboardInterrupt
 
     before = signal.signal(signal.SIGALRM, interrupt)
     signal.setitimer(signal.ITIMER_REAL, delay)
     try:
-        selqumar.Table.of_files([file])
+        try:
+            selqumar.Table.of_files([file])
+        finally:
+            signal.setitimer(signal.ITIMER_REAL, 0)
     except KeyboardInterrupt:
         return True
     finally:
-        signal.setitimer(signal.ITIMER_REAL, 0)
         signal.signal(signal.SIGALRM, before)
     return False
+
+
+def is_in_finalizer(frame):
+    """Whether a frame, or one that called it, is of Python's finalizers."""
+    while frame is not None and frame.f_code.co_filename != weakref.__file__:
+        frame = frame.f_back
+    return frame is not None
 
 
 def thread_cases(library):
