@@ -8,7 +8,7 @@ use Rattle.std.proofs.lemmas.List.{append-nil, get_or-map, take_more}
 use Rattle.std.proofs.lemmas.List.Elements.{All-get_or, All-head, All-tail}
 use mathlib.Core.Path.{fun_ext}
 use Rattle.arrays.specs.Batch.{Batch, Row, Table, rows_of}
-use Rattle.types.specs.Shape.{FieldShape, kind_of_field}
+use Rattle.arrays.specs.Shape.{FieldShape, kind_of_field}
 use Rattle.query.specs.QueryShape.{query_shape}
 use Rattle.query.specs.Tree.{Tree}
 use Rattle.query.specs.declared.queries.Query.{Query}

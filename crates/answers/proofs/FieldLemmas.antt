@@ -3,10 +3,10 @@ use Rattle.std.proofs.Common.{◌≡◌, ◌∙◌, ℕ, List, ◌∷◌, map, O
 use Rattle.std.specs.Prelude.{option_and_then, option_map, slice_get, Result, Err}
 use Rattle.std.proofs.lemmas.Option.{slice_get-map}
 use Rattle.arrays.specs.Batch.{Row}
-use Rattle.types.specs.Kind.{Kind}
-use Rattle.types.specs.Shape.{FieldShape, kind_of_field}
+use Rattle.arrays.specs.Kind.{Kind}
+use Rattle.arrays.specs.Shape.{FieldShape, kind_of_field}
 use Rattle.query.specs.Checked.{checked}
-use Rattle.query.specs.Columns.{sort_at, sort_of_field}
+use Rattle.query.specs.CalledColumns.{sort_at, sort_of_field}
 use Rattle.query.specs.Sorts.{sort_of_kind}
 use Rattle.query.specs.Tree as tree
 use Rattle.query.specs.Tree.{Tree, Trees}

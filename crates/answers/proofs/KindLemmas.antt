@@ -10,9 +10,9 @@ use Rattle.arrays.specs.Kind.{Kind}
 use Rattle.arrays.specs.Seen.{Seen}
 use Rattle.arrays.specs.Slot.{is_list}
 use Rattle.arrays.specs.Typed.{IsItemOf}
-use Rattle.types.specs.Shape.{FieldShape, kind_of_field}
-use Rattle.query.specs.Columns.{sort_at}
-use Rattle.query.specs.Fault.{agg_fault}
+use Rattle.arrays.specs.Shape.{FieldShape, kind_of_field}
+use Rattle.query.specs.CalledColumns.{sort_at}
+use Rattle.query.specs.FirstFault.{agg_fault}
 use Rattle.query.specs.Sorts.{is_plain}
 use Rattle.query.specs.declared.expr.Agg.{Agg}
 use Rattle.query.specs.declared.expr.Agg.TheVariants.{Least, Greatest}

@@ -1,4 +1,8 @@
 -- What the proofs of this crate share.
+pub use Rattle.group.proofs.ColumnsLemmas
+pub use Rattle.group.proofs.JoinedStats
+pub use Rattle.group.proofs.StatsSending
+pub use Rattle.group.proofs.TallyLemmas
 pub mod ListLemmas
 pub mod FirstsLemmas
 pub mod GroupLemmas

@@ -16,7 +16,7 @@ use Rattle.answers.specs.Groups.{cell, values}
 use Rattle.group.specs.Stats.{greater, greatest_of, is_ordered, least_of, lesser, numbers_of, ordered}
 use Rattle.arrays.specs.Slot.{item_of}
 use Rattle.group.specs.Scalars.{item_or_null}
-use Rattle.group.proofs.JoinLemmas.{least-append, greatest-append}
+use Rattle.group.proofs.JoinedStats.{least-append, greatest-append}
 use Rattle.group.specs.Bounds.{IsGreatestOf, IsLeastOf}
 use Rattle.group.proofs.BoundLemmas.{greatest_bounds, least_bounds}
 use Rattle.tallies.proofs.TallyLemmas.{tally-merged, valid_items-one}

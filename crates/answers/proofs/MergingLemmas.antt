@@ -11,7 +11,7 @@ use Rattle.arrays.specs.Item.{Item}
 use Rattle.arrays.specs.Kind.{Kind}
 use Rattle.group.specs.Summary.{AreStats}
 use Rattle.group.specs.declared.stats.ColumnStats.{ColumnStats}
-use Rattle.types.specs.Shape.{FieldShape}
+use Rattle.arrays.specs.Shape.{FieldShape}
 use Rattle.query.specs.QueryShape.{QueryShape}
 use Rattle.query.specs.declared.expr.Agg.{Agg}
 use Rattle.query.specs.declared.expr.Agg.TheVariants.{Rows, Count, Sum, Least, Greatest}

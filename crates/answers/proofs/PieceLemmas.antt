@@ -8,10 +8,10 @@ use Rattle.std.specs.List.{position_or_len, range_with_len}
 use Rattle.std.proofs.lemmas.Grind.{common_steps}
 use Rattle.std.proofs.lemmas.List.{length-drop, length-take, take_all}
 use Rattle.std.proofs.lemmas.List.Elements.{All-append, All-cons, All-drop, All-head, All-nil, All-tail, All-take}
-use Rattle.colbits.proofs.BitLemmas.{map-range-same}
+use Rattle.arrays.proofs.BitLemmas.{map-range-same}
 use Rattle.arrays.specs.Batch.{Batch, Row, Table, row_of, rows_of}
 use Rattle.evaluate.specs.Slices.{row_in}
-use Rattle.types.specs.Shape.{FieldShape, kind_of_field}
+use Rattle.arrays.specs.Shape.{FieldShape, kind_of_field}
 use Rattle.query.specs.QueryShape.{query_shape}
 use Rattle.query.specs.Tree.{Tree}
 use Rattle.query.specs.declared.queries.Query.{Query}

@@ -8,7 +8,7 @@ use Rattle.std.proofs.lemmas.List.FromFn.{get_or-map-range_with_len, length-map-
 use Rattle.std.proofs.lemmas.List.Sums.{length-filter, count_by-le-length}
 use Rattle.arrays.specs.Batch.{Batch, Row, Table, row_of, rows_of}
 use Rattle.arrays.specs.Item.{Item, null, int, boolean, text, list}
-use Rattle.types.specs.Shape.{FieldShape}
+use Rattle.arrays.specs.Shape.{FieldShape}
 use Rattle.query.specs.Tree.{Tree}
 use Rattle.evaluate.specs.Slices.{AreFilterValues, IsFilterStop, item_in, row_in}
 use Rattle.evaluate.specs.Value.{value}

@@ -4,7 +4,7 @@ use Rattle.std.specs.Prelude.{Ok, position}
 use Rattle.std.proofs.lemmas.List.Elements.{All-append, All-filter, filter-append}
 use Rattle.arrays.specs.Batch.{Table}
 use Rattle.arrays.specs.Kind.{Kind}
-use Rattle.types.specs.Shape.{FieldShape}
+use Rattle.arrays.specs.Shape.{FieldShape}
 use Rattle.query.specs.QueryShape.{query_shape}
 use Rattle.query.specs.declared.fault.QueryFault.{QueryFault}
 use Rattle.query.specs.declared.fault.QueryFault.TheVariants.{Overflow}

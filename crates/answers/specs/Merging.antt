@@ -3,13 +3,13 @@ use Rattle.std.specs.Prelude.{◌≡◌, ◌+◌, ◌||◌, ℕ, true, List, [],
 use Rattle.std.specs.List.{AllZip, range_with_len}
 use Rattle.arrays.specs.Item.{Item, null, is_null}
 use Rattle.arrays.specs.Kind.{Kind}
-use Rattle.types.specs.Shape.{FieldShape}
+use Rattle.arrays.specs.Shape.{FieldShape}
 use Rattle.query.specs.QueryShape.{QueryShape}
 use Rattle.query.specs.declared.expr.Agg.{Agg}
 use Rattle.query.specs.declared.expr.Agg.TheVariants.{Rows, Count, Sum, Least, Greatest}
 use Rattle.answers.specs.Groups.{GroupShape, groups}
 use Rattle.arrays.specs.Batch.{Row, Table}
-use Rattle.group.specs.Columns.{Joins}
+use Rattle.group.specs.StatsOfColumns.{Joins}
 use Rattle.group.specs.Stats.{is_ordered}
 use Rattle.group.specs.declared.stats.ColumnStats.{ColumnStats}
 

@@ -1,7 +1,6 @@
 //! Texts that are likely to be among the keys of all pieces.
 
-use arrays::{RecordBatch, View, ViewType};
-use colbits::NoMemory;
+use arrays::{NoMemory, RecordBatch, View, ViewType};
 use keys::TextSet;
 use query::Query;
 use std::alloc::Global;

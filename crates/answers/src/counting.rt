@@ -3,10 +3,10 @@
 ghost use Rattle.std.specs.Prelude.{◌≡◌, ◌≤◌, ◌^◌, All, None, length, map, true};
 ghost use Rattle.std.specs.Arc.{arc_value};
 ghost use Rattle.arrays.specs.Batch.{Batch, rows_of};
-ghost use Rattle.types.specs.Shape.{kind_of_field};
+ghost use Rattle.arrays.specs.Shape.{kind_of_field};
 ghost use Rattle.query.specs.QueryShape.{query_shape};
-ghost use Rattle.query.specs.Columns.{sort_at};
-ghost use Rattle.query.specs.Fault.{agg_fault, fits};
+ghost use Rattle.query.specs.CalledColumns.{sort_at};
+ghost use Rattle.query.specs.FirstFault.{agg_fault, fits};
 ghost use Rattle.answers.specs.Answers.{all_rows, first_fields};
 ghost use Rattle.tallies.specs.Kinds.{AreComparable, IsComparable};
 ghost use Rattle.evaluate.specs.Rows.{kind_at};

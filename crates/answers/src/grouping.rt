@@ -4,8 +4,8 @@ ghost use Rattle.std.specs.Prelude.{◌≡◌, ◌<◌, ◌≤◌, ◌+◌, ◌^
 ghost use Rattle.arrays.specs.Batch.{Batch, Table, row_of};
 ghost use Rattle.arrays.specs.Kind.{Kind};
 ghost use Rattle.query.specs.QueryShape.{query_shape};
-ghost use Rattle.query.specs.Columns.{sort_at};
-ghost use Rattle.query.specs.Fault.{agg_fault, fits};
+ghost use Rattle.query.specs.CalledColumns.{sort_at};
+ghost use Rattle.query.specs.FirstFault.{agg_fault, fits};
 ghost use Rattle.tallies.specs.Columns.{column_of, show_column, IsColumnOf};
 ghost use Rattle.answers.specs.Grouping.{CountsRows, HasGroups, HasGroupRoom, IsReadyFor};
 ghost use Rattle.tallies.specs.Kinds.{AreComparable};
@@ -13,8 +13,7 @@ ghost use Rattle.tallies.specs.Merging.{AreAlike, spread_all};
 ghost use Rattle.tallies.specs.Spread.{padded, spread};
 ghost use Rattle.tallies.specs.Tallies.{tally_of};
 
-use arrays::RecordBatch;
-use colbits::NoMemory;
+use arrays::{NoMemory, RecordBatch};
 use keys::{KeyColumns, KeySet, Memo, TextSet, intern_keys, intern_rows};
 use query::{Agg, Query};
 use std::alloc::Global;

@@ -2,15 +2,14 @@
 
 ghost use Rattle.std.specs.Prelude.{◌≡◌, ◌+◌, ◌<◌, ◌^◌, ◌++◌, ℕ, OnOk, filter, length, map};
 ghost use Rattle.std.specs.List.{range_with_len};
-ghost use Rattle.colbits.specs.Bit.{bit_in};
+ghost use Rattle.arrays.specs.Bit.{bit_in};
 ghost use Rattle.arrays.specs.Kind as kind;
 ghost use Rattle.arrays.specs.Slot.{item_at};
 ghost use Rattle.answers.specs.Masks.{is_set, ones_of, set_rows};
 ghost use Rattle.answers.specs.Runs.{keeps_item};
 
 use arrays::validity::valid_word;
-use arrays::{Bools, View};
-use colbits::NoMemory;
+use arrays::{Bools, NoMemory, View};
 
 /// The truth values of a view.
 pub(crate) fn of<'a>(view: &View<'a>) -> Bools<'a>

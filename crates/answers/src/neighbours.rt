@@ -2,7 +2,7 @@
 
 ghost use Rattle.std.specs.Prelude.{ℕ, List};
 ghost use Rattle.arrays.specs.Batch.{Table};
-ghost use Rattle.types.specs.Shape.{FieldShape};
+ghost use Rattle.arrays.specs.Shape.{FieldShape};
 ghost use Rattle.answers.specs.Pieces.{AreLooked, AreNeighbours};
 
 use crate::grouping::Grouping;

@@ -10,7 +10,7 @@ ghost use Rattle.answers.specs.Grouping.{IsFull, groups_from};
 use crate::grouping::Grouping;
 use crate::groups::Group;
 use crate::shares::{back_of, share_of};
-use colbits::NoMemory;
+use arrays::NoMemory;
 use group::Scalar;
 use std::alloc::Global;
 use std::thread::{Threads, join};

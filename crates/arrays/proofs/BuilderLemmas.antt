@@ -17,7 +17,7 @@ use Rattle.layout.specs.Seen.{Seen, valid_at, valid_in}
 use Rattle.arrays.specs.Shown.{kept, shown}
 use Rattle.arrays.specs.Values.{HasNumbers}
 use Rattle.arrays.specs.Builder.{built, item_at, numbers_where, IsBuilt}
-use Rattle.layout.proofs.ListLemmas.{map-range-below}
+use Rattle.layout.proofs.RangeLists.{map-range-below}
 use Rattle.arrays.proofs.ListLemmas.{map-range-joined}
 use Rattle.types.proofs.EncodingLemmas.{length-bytes_of_number, number_at-append-front, number_at-append-end, number_at-append-past}
 use Rattle.arrays.proofs.FinishedLemmas.{slots_shown}

@@ -12,7 +12,7 @@ use Rattle.layout.specs.Item.{Item, null, text, list, list_of}
 use Rattle.arrays.specs.Growing.{cut_texts, AreTextsOf, IsText}
 use Rattle.arrays.specs.Lengths.{cut, is_past, total, text_length, text_bytes}
 use Rattle.types.specs.Limits.{most_slots}
-use Rattle.types.specs.OffsetWidth.{is_full}
+use Rattle.types.specs.OffsetSize.{is_full}
 use Rattle.colbits.specs.Slice.{slice}
 
 -- ---- how long slots are together

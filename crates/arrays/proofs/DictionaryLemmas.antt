@@ -24,7 +24,7 @@ use Rattle.layout.specs.Reading.{Reading, inner_of, read_parts}
 use Rattle.layout.specs.Checked.{checked_texts}
 use Rattle.layout.proofs.FirstFaultLemmas.{IsWhole, own_fault-whole}
 use Rattle.layout.proofs.LawfulLemmas.{texts_of, either_false, none_present, no_dictionary}
-use Rattle.layout.proofs.ListLemmas.{map-range-below}
+use Rattle.layout.proofs.RangeLists.{map-range-below}
 use Rattle.layout.proofs.RowLemmas.{least_none}
 use Rattle.arrays.proofs.DictionaryViews.{codes-whole, codes_fit, codes_lawful, named-part}
 use Rattle.arrays.proofs.SlotLemmas.{whole}

@@ -11,12 +11,12 @@ use Rattle.colbits.specs.Slice.{slice}
 use Rattle.colbits.proofs.BitLemmas.{drop-map-range, map-range-same}
 use Rattle.types.specs.declared.offset_width.OffsetWidth.{OffsetWidth}
 use Rattle.types.specs.Number.{is_negative, natural, number_at}
-use Rattle.types.specs.OffsetWidth.{is_full, most_of, offset_type, size_of}
+use Rattle.types.specs.OffsetSize.{is_full, most_of, offset_type, size_of}
 use Rattle.types.proofs.EncodingLemmas.{number_at-append-front, number_at-append-past}
 use Rattle.layout.specs.Item.{Item, null, text}
 use Rattle.layout.specs.Offsets.{AreBytesOf, AreOffsetBytes, AreOffsets, length_at, length_of, of_slot, start_at, start_of}
 use Rattle.layout.specs.Seen.{valid_in}
-use Rattle.layout.proofs.ListLemmas.{map-range-below}
+use Rattle.layout.proofs.RangeLists.{map-range-below}
 use Rattle.layout.proofs.OffsetParts.{ends_within}
 use Rattle.arrays.specs.declared.builder.fault.BuildFault.{BuildFault}
 use Rattle.arrays.specs.declared.view.texts.Texts.{Texts}

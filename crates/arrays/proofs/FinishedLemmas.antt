@@ -11,7 +11,7 @@ use Rattle.arrays.specs.FromParts.{show_slots}
 use Rattle.arrays.specs.Packed.{IsBufferOf}
 use Rattle.layout.specs.Seen.{Seen, no_entries}
 use Rattle.arrays.specs.Shown.{kept, shown}
-use Rattle.layout.proofs.ListLemmas.{map-range-below}
+use Rattle.layout.proofs.RangeLists.{map-range-below}
 use Rattle.arrays.proofs.ValidityLemmas.{IsKept, kept_buffer, is_there, slot_same}
 
 -- the value of a slot where it is valid, else null

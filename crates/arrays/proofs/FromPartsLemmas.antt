@@ -8,7 +8,7 @@ use Rattle.types.specs.declared.offset_width.OffsetWidth.{OffsetWidth}
 use Rattle.types.specs.Kind as kind
 use Rattle.layout.specs.declared.raw.RawArray.{RawArray}
 use Rattle.types.specs.Kind.{Kind, bytes_of}
-use Rattle.types.specs.OffsetWidth.{offset_type, size_of}
+use Rattle.types.specs.OffsetSize.{offset_type, size_of}
 use Rattle.layout.specs.Layout.{Buffers, column, is_valid_in}
 use Rattle.types.specs.Number.{natural, number_at, is_negative}
 use Rattle.types.specs.First.{first}

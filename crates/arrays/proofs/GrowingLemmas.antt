@@ -15,7 +15,7 @@ use Rattle.arrays.specs.Packed.{IsBufferOf}
 use Rattle.arrays.specs.Shown.{kept, shown}
 use Rattle.arrays.specs.Slot.{item_of_bool}
 use Rattle.arrays.proofs.FinishedLemmas.{slots_shown}
-use Rattle.layout.proofs.ListLemmas.{map-range-below}
+use Rattle.layout.proofs.RangeLists.{map-range-below}
 
 -- ---- truth values
 

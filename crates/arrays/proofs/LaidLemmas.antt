@@ -14,7 +14,7 @@ use Rattle.types.specs.declared.offset_width.OffsetWidth.{OffsetWidth}
 use Rattle.types.specs.declared.offset_width.OffsetWidth.TheVariants.{Narrow, Wide}
 use Rattle.types.specs.Kind as kind
 use Rattle.types.specs.Kind.{Kind}
-use Rattle.types.specs.OffsetWidth.{is_full, most_of, offset_type, size_of}
+use Rattle.types.specs.OffsetSize.{is_full, most_of, offset_type, size_of}
 use Rattle.layout.specs.Layout.{is_valid_in}
 use Rattle.types.specs.Number.{natural, number_at, is_negative, IsOfType, bytes_of_number}
 use Rattle.arrays.specs.Growing.{cut_texts, lengths_where, AreFresh, AreLaid, AreTextsOf, IsText}
@@ -26,7 +26,7 @@ use Rattle.layout.specs.Seen.{Seen, no_entries}
 use Rattle.arrays.specs.Shown.{kept, shown}
 use Rattle.arrays.proofs.CutLemmas.{cut_by, cut-from, lists_cut, slot_length, Rises, texts_cut, total-from, total-push}
 use Rattle.types.proofs.EncodingLemmas.{length-bytes_of_number, number_at-append-front, number_at-append-end}
-use Rattle.layout.proofs.ListLemmas.{map-range-below}
+use Rattle.layout.proofs.RangeLists.{map-range-below}
 use Rattle.arrays.proofs.ValidityLemmas.{IsKept, kept_buffer}
 use Rattle.types.specs.Limits.{most_slots}
 

@@ -1,3 +1,15 @@
+pub use Rattle.colbits.proofs.BitLemmas
+pub use Rattle.colbits.proofs.WordLemmas
+pub use Rattle.types.proofs.EncodingLemmas
+pub use Rattle.types.proofs.FirstLemmas
+pub use Rattle.types.proofs.RangeLemmas
+pub use Rattle.types.proofs.SchemaLemmas
+pub use Rattle.types.proofs.ShapeLemmas
+pub use Rattle.layout.proofs.ChildLemmas
+pub use Rattle.layout.proofs.FirstFaultLemmas
+pub use Rattle.layout.proofs.LawfulLemmas
+pub use Rattle.layout.proofs.RangeLists
+pub use Rattle.layout.proofs.RowLemmas
 pub mod PartsLemmas
 pub mod LentLemmas
 pub mod ListLemmas

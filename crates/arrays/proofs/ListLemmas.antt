@@ -4,7 +4,7 @@ use Rattle.std.specs.List.{range_with_len}
 use Rattle.std.proofs.lemmas.List.{append-nil, append_assoc}
 use Rattle.std.proofs.lemmas.List.FromFn.{map-range_with_len_more}
 use Rattle.layout.specs.Item.{Item, Items, items_of, list_of}
-use Rattle.layout.proofs.ListLemmas.{map-range-below}
+use Rattle.layout.proofs.RangeLists.{map-range-below}
 
 -- places behind one another make two lists joined
 pub map-range-joined : {X : Type 0} (f g h : ℕ → X) (n m : ℕ) → ((i : ℕ) → i < n → f i ≡ g i) → ((j : ℕ) → j < m → f (n + j) ≡ h j)

@@ -14,7 +14,7 @@ use Rattle.layout.specs.Item.{Item, null, is_null, boolean, text, list, list_of}
 use Rattle.types.specs.declared.offset_width.OffsetWidth.{OffsetWidth}
 use Rattle.types.specs.Kind as kind
 use Rattle.types.specs.Kind.{Kind, item_kind, kind_of, same_kind}
-use Rattle.types.specs.OffsetWidth.{offset_type}
+use Rattle.types.specs.OffsetSize.{offset_type}
 use Rattle.types.specs.Number.{is_negative, number_at}
 use Rattle.layout.specs.Layout.{Buffers, bytes_at, buffer_at, is_valid, column, value_at}
 use Rattle.layout.specs.declared.fault.LayoutFault.{LayoutFault}
@@ -35,7 +35,7 @@ use Rattle.types.specs.declared.data_type.Field.{Field, out-Field}
 use Rattle.std.proofs.lemmas.Bool.{false≢true, not-false}
 use Rattle.layout.proofs.FirstFaultLemmas.{IsWhole, reading-raw}
 use Rattle.layout.proofs.ChildLemmas.{OneChild, only_child}
-use Rattle.layout.proofs.ListLemmas.{map-range-below}
+use Rattle.layout.proofs.RangeLists.{map-range-below}
 use Rattle.layout.proofs.OffsetLemmas.{fails-least_none}
 use Rattle.layout.proofs.OffsetParts.{AreOffsets-part, Rising, enough-part, of_slot-in, rising-lists, rising-texts}
 use Rattle.arrays.proofs.SlotLemmas.{seen-validity, slice-column, validity-part, valid-part, valid-view, whole}

@@ -3,7 +3,7 @@ use denote.Param.Send.{IsSend, IsSync, sendable}
 use Rattle.std.proofs.Crossing.{crosses}
 use Rattle.types.proofs.data_type.DataType.TheLaws.TheKnot as fields
 use Rattle.layout.proofs.raw.RawArray.TheLaws.TheKnot as raws
-use Rattle.types.proofs.SendingLemmas.{schema-send, schema-sync}
+pub use Rattle.types.proofs.SendingLemmas.{schema-send, schema-sync}
 use Rattle.colbits.proofs.SendingLemmas.{buffer-send, buffer-sync}
 use Rattle.arrays.specs.contracts.array.parts.Parts as parts
 use Rattle.arrays.specs.contracts.words.Words as words

@@ -11,7 +11,7 @@ use Rattle.std.proofs.Math.Seq.{take-add}
 use Rattle.std.proofs.lemmas.Bool.{or_parts}
 use Rattle.types.specs.declared.offset_width.OffsetWidth.{OffsetWidth}
 use Rattle.types.specs.declared.offset_width.OffsetWidth.TheVariants.{Narrow, Wide}
-use Rattle.types.specs.OffsetWidth.{most_of}
+use Rattle.types.specs.OffsetSize.{most_of}
 use Rattle.types.specs.Kind as kind
 use Rattle.types.specs.Kind.{Kind, item_kind}
 use Rattle.types.specs.Limits.{most_slots}

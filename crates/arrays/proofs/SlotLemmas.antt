@@ -26,7 +26,7 @@ use Rattle.arrays.specs.Slot.{is_recodable, is_text, item_of}
 use Rattle.arrays.specs.Values.{HasNumbers, items_where, valid_values}
 use Rattle.layout.proofs.FirstFaultLemmas.{IsWhole, own_fault-none}
 use Rattle.layout.proofs.LawfulLemmas.{first-parts}
-use Rattle.layout.proofs.ListLemmas.{map-range-below}
+use Rattle.layout.proofs.RangeLists.{map-range-below}
 use Rattle.layout.proofs.OffsetParts.{number_at-slice}
 use Rattle.layout.proofs.SeenLemmas.{length-slice, length-items}
 

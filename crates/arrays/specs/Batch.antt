@@ -9,8 +9,8 @@ use Rattle.arrays.specs.declared.batch.BatchFault.{BatchFault}
 use Rattle.arrays.specs.declared.batch.BatchFault.TheVariants.{LengthsDiffer, TypeDiffers, ColumnCount}
 use Rattle.std.specs.Coded.{Coded, code_by, coded_ℕ, coded_list, coded×}
 use Rattle.std.specs.Option.{option_or}
-use Rattle.types.specs.Code.{field_code}
-use Rattle.layout.specs.Code.{seen_code}
+use Rattle.types.specs.FieldCode.{field_code}
+use Rattle.layout.specs.SeenCode.{seen_code}
 use Rattle.types.specs.Limits.{most_slots}
 
 -- Columns under their fields, of so many rows.

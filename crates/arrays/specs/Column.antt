@@ -1,10 +1,10 @@
 -- What a column in the making shows.
 use Rattle.std.specs.Prelude.{ℕ, List, Option, refl}
 use Rattle.std.specs.Coded.{Coded, code_by, coded_ℕ, coded_list, coded_option, coded×}
-use Rattle.types.specs.Code.{int_code, offsets_code}
+use Rattle.types.specs.FieldCode.{int_code, offsets_code}
 use Rattle.types.specs.declared.int_type.IntType.{IntType}
 use Rattle.types.specs.declared.offset_width.OffsetWidth.{OffsetWidth}
-use Rattle.layout.specs.Code.{item_code}
+use Rattle.layout.specs.SeenCode.{item_code}
 use Rattle.layout.specs.Item.{Item}
 
 -- The numbers so far, null where there is none.

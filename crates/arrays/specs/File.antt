@@ -4,7 +4,7 @@ use Rattle.types.specs.Kind.{Kind}
 use Rattle.types.specs.Shape.{FieldShape, kind_of_field}
 use Rattle.arrays.specs.Batch.{Batch, batch_code}
 use Rattle.std.specs.Coded.{Coded, code_by, coded_list, coded×}
-use Rattle.types.specs.Code.{field_code}
+use Rattle.types.specs.FieldCode.{field_code}
 
 pub record File : Type 0 where
   pub fields : List FieldShape

@@ -4,7 +4,7 @@ use Rattle.std.specs.List.{range_with_len, All}
 use Rattle.std.specs.Str.{IsUtf8}
 use Rattle.colbits.specs.Bit.{bits}
 use Rattle.types.specs.declared.offset_width.OffsetWidth.{OffsetWidth}
-use Rattle.types.specs.OffsetWidth.{most_of, size_of}
+use Rattle.types.specs.OffsetSize.{most_of, size_of}
 use Rattle.layout.specs.Fault.{is_validity_short}
 use Rattle.layout.specs.Item.{Item, null, boolean, text}
 use Rattle.layout.specs.Layout.{is_valid_in}

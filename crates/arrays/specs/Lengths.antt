@@ -4,7 +4,7 @@ use Rattle.layout.specs.Item.{Item, null, text, list, items_of, list_of}
 use Rattle.layout.specs.Seen.{Seen}
 use Rattle.arrays.specs.declared.builder.fault.BuildFault.{BuildFault}
 use Rattle.arrays.specs.declared.builder.fault.BuildFault.TheVariants.{NoMemory, OffsetsFull}
-use Rattle.types.specs.OffsetWidth.{is_full}
+use Rattle.types.specs.OffsetSize.{is_full}
 use Rattle.types.specs.Kind as kind
 use Rattle.types.specs.Kind.{Kind}
 use Rattle.types.specs.Limits.{most_slots}

@@ -43,7 +43,7 @@ pub struct Array {
 impl Model for Array {
     ghost use Rattle.std.specs.Prelude.{◌≡◌, None};
     ghost use Rattle.layout.specs.Seen.{Seen};
-    ghost use Rattle.layout.specs.Code.{seen_code};
+    ghost use Rattle.layout.specs.SeenCode.{seen_code};
 
     ghost Value = { Seen };
 

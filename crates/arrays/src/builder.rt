@@ -14,12 +14,13 @@ pub mod texts;
 pub mod validity;
 
 use crate::array::Array;
+use crate::numbers::push_number;
 use crate::validity::buffer_of;
 use crate::view::View;
 use colbits::{Bits, Buffer, NoMemory};
 use std::alloc::Global;
 use std::marker::Model;
-use types::{IntType, Integer, push_number};
+use types::{IntType, Integer};
 use validity::ValidityBuilder;
 
 /// A column of integers in the making.

@@ -16,8 +16,10 @@
 pub mod array;
 pub mod batch;
 pub mod builder;
+pub mod dispatch;
 pub mod file;
 pub mod lent;
+pub mod numbers;
 pub mod offset_slots;
 pub mod validity;
 pub mod view;
@@ -31,13 +33,15 @@ pub use builder::fault::BuildFault;
 pub use builder::lists::ListBuilder;
 pub use builder::texts::TextBuilder;
 pub use builder::validity::ValidityBuilder;
+pub use colbits::{BitmapBuf, BitmapBuilder, Bits, Buffer, NoMemory, Places};
 pub use file::File;
 pub use layout::{LayoutFault, Offsets, RawArray};
 pub use lent::LentParts;
+pub use numbers::push_number;
 pub use offset_slots::OffsetSlots;
 pub use types::{
-    DataType, Field, INT32, IntType, Integer, MOST_SLOTS, OffsetWidth, Packed, Schema, SchemaFault,
-    Width, has_dict_in_list, is_too_deep,
+    DataType, Field, INT32, INT64, IntType, Integer, MOST_SLOTS, OffsetWidth, Packed, Schema,
+    SchemaFault, Width, has_dict_in_list, is_too_deep, natural_at,
 };
 pub use view::{Bools, Ints, Lists, Texts, View, ViewType};
 pub use words::Words;

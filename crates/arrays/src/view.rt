@@ -87,7 +87,7 @@ pub struct View<'a> {
 
 impl<'a> Model for View<'a> {
     ghost use Rattle.layout.specs.Seen.{Seen};
-    ghost use Rattle.layout.specs.Code.{seen_code};
+    ghost use Rattle.layout.specs.SeenCode.{seen_code};
 
     ghost Value = { Seen };
 

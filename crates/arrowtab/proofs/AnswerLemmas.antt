@@ -4,16 +4,16 @@ use Rattle.std.proofs.lemmas.List.{length-map}
 use Rattle.std.proofs.lemmas.Slice.Zip.{AllZip-long}
 use Rattle.arrays.specs.File.{File}
 use Rattle.arrays.specs.Shape.{FieldShape, field_of}
-use Rattle.json_read.specs.JsonField.{IsFieldText}
-use Rattle.json_read.specs.JsonFile.{file_of}
+use Rattle.arrow_json.specs.JsonField.{IsFieldText}
+use Rattle.arrow_json.specs.JsonFile.{file_of}
 use Rattle.job.specs.Jobs.{text_of_query}
 use Rattle.job.specs.declared.jobs.Command.{Command}
 use Rattle.job.specs.declared.jobs.Command.TheVariants as command
 use Rattle.job.specs.declared.jobs.Job.{Job}
 use Rattle.job.specs.declared.jobs.Output.{Output}
 use Rattle.job.specs.declared.jobs.QuerySource.{QuerySource}
-use Rattle.query.specs.Resolved.{named}
-use Rattle.query.specs.declared.fault.QueryFault.{QueryFault}
+use Rattle.table.specs.Resolved.{named}
+use Rattle.table.specs.QueryFault.{QueryFault}
 use Rattle.table.specs.History.{History}
 use Rattle.table.specs.declared.refusal.Refusal.{Refusal}
 use Rattle.arrowtab.specs.Column.{IsColumn, column_text, fields_with, history_with}

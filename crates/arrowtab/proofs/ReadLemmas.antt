@@ -7,13 +7,13 @@ use Rattle.std.proofs.lemmas.Slice.Zip.{AllZip-long}
 use Rattle.std.specs.Prelude.{◌⊎◌, All, Err, is_some}
 use Rattle.std.specs.List.{AllByRecursion, AllZip}
 use Rattle.arrays.specs.File.{File}
-use Rattle.json_read.specs.JsonFile.{AreUnder, BytesFault, Reads, file_of}
+use Rattle.arrow_json.specs.JsonFile.{AreUnder, BytesFault, Reads, file_of}
 use Rattle.ends.specs.Source.{CountsReads}
 use Rattle.ends.specs.declared.source.SourceFault.{SourceFault}
 use Rattle.ends.specs.declared.source.SourceFault.TheVariants.{ReadFailed}
-use Rattle.json.proofs.Found.{Some_inj}
-use Rattle.json_base.specs.JsonTable.{FileData}
-use Rattle.json_base.specs.declared.fault.JsonFault.{JsonFault}
+use Rattle.arrow_json.proofs.Found.{Some_inj}
+use Rattle.arrow_json.specs.JsonTable.{FileData}
+use Rattle.arrow_json.specs.JsonFault.{JsonFault}
 use Rattle.reports.proofs.ParseLemmas.{texts_under, zip_more}
 use Rattle.arrowtab.specs.Explained.{ExplainsFiles, IsOfFirst}
 use Rattle.reports.specs.Parsed.{AddsFiles, IsFirstUnread, IsTextOf, StopsParsing}

@@ -16,10 +16,10 @@ use Rattle.arrays.specs.Item.{Item, boolean, int, null, text}
 use Rattle.arrays.specs.Kind as kind
 use Rattle.arrays.specs.Kind.{Kind}
 use Rattle.arrays.specs.Shape.{FieldShape, kind_of_field, name_of}
-use Rattle.group.proofs.JoinLemmas.{are_bytes, are_numbers, are_truths, bytes_of_text, cond-item, greatest-append, least-append, nulls-append, reduce-items, sum-append, truth_of}
-use Rattle.group.proofs.TallyLemmas.{no_greatest_of_lists, no_least_of_lists}
-use Rattle.group.specs.Joined.{better, both_sums}
-use Rattle.group.specs.Stats.{greater, greatest_of, is_bytes, is_number, is_truth, least_of, lesser, nulls_of, number_of, sum_of}
+use Rattle.table.proofs.JoinedStats.{are_bytes, are_numbers, are_truths, bytes_of_text, cond-item, greatest-append, least-append, nulls-append, reduce-items, sum-append, truth_of}
+use Rattle.table.proofs.TallyLemmas.{no_greatest_of_lists, no_least_of_lists}
+use Rattle.table.specs.Joined.{better, both_sums}
+use Rattle.table.specs.Stats.{greater, greatest_of, is_bytes, is_number, is_truth, least_of, lesser, nulls_of, number_of, sum_of}
 use Rattle.shared.proofs.BalanceLemmas.{rows_widened}
 use Rattle.table.proofs.WidenedLemmas.{length-widened, of-widened, rows-widened, table-column}
 use Rattle.table.specs.History.{History, of, rows}

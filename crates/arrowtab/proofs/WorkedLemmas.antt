@@ -12,7 +12,7 @@ use Rattle.arrays.specs.Shape.{FieldShape}
 use Rattle.loads.specs.Loaded.{batches_of_files, fields_for, pairs_of}
 use Rattle.loads.specs.Plan.{planned}
 use Rattle.shared.specs.Balance.{IsOfWorkers}
-use Rattle.query.specs.declared.fault.QueryFault.{QueryFault}
+use Rattle.table.specs.QueryFault.{QueryFault}
 use Rattle.table.specs.Cause.{IsLegal, batch_cause, difference}
 use Rattle.table.specs.Contents.{Contents}
 use Rattle.table.specs.History.{History, of}

@@ -1,10 +1,10 @@
 -- A column that is added once the files are loaded.
 use Rattle.std.specs.Prelude.{◌≡◌, ◌+◌, ◌++◌, ℕ, List, [], ◌∷◌, length, Option, None, Some, IfSome, option_map, string_bytes, ⊤}
 use Rattle.arrays.specs.Shape.{FieldShape}
-use Rattle.json_read.specs.JsonField.{FieldTextFault, IsFieldText}
+use Rattle.arrow_json.specs.JsonField.{FieldTextFault, IsFieldText}
 use Rattle.job.specs.declared.jobs.Job.{Job}
-use Rattle.json_base.specs.declared.path.Step.{Step}
-use Rattle.json_base.specs.declared.fault.JsonFaultKind.{JsonFaultKind}
+use Rattle.arrow_json.specs.Step.{Step}
+use Rattle.arrow_json.specs.JsonFaultKind.{JsonFaultKind}
 use Rattle.table.specs.History.{History}
 use Rattle.table.specs.Stored.{stored_field}
 use Rattle.table.specs.Widened.{add_fault, widened}

@@ -1,7 +1,7 @@
 -- Why there is no output.
 use Rattle.std.specs.Prelude.{◌≡◌, ◌<◌, ℕ, List, slice_get, take, ⊤}
 use Rattle.arrowtab.specs.Run.{AreRead, FailedFile, FailedQuery, FailedRead, Inputs, Refuses, RefusesQuery}
-use Rattle.json_base.specs.JsonTable.{FileData}
+use Rattle.arrow_json.specs.JsonTable.{FileData}
 use Rattle.job.specs.declared.jobs.Job.{Job}
 use Rattle.arrowtab.specs.Column.{FailedColumn, RefusesColumn}
 use Rattle.reports.specs.declared.run_fault.ColumnFault.{ColumnFault}

@@ -1,15 +1,15 @@
 -- The output of each command.
 use Rattle.std.specs.Prelude.{◌≡◌, ℕ, List, []}
-use Rattle.answers.specs.Groups.{GroupShape}
+use Rattle.table.specs.Groups.{GroupShape}
 use Rattle.arrays.specs.Shape.{FieldShape}
 use Rattle.job.specs.Jobs.{text_of_query}
 use Rattle.job.specs.declared.jobs.Command.{Command}
 use Rattle.job.specs.declared.jobs.Command.TheVariants.{Stats, Schema, Validate, Head, Export, Query}
 use Rattle.job.specs.declared.jobs.Output.{Output}
 use Rattle.job.specs.declared.jobs.Output.TheVariants.{Lines, Json, Csv}
-use Rattle.query.specs.QueryShape.{QueryShape}
-use Rattle.query.specs.declared.fault.QueryFault.{QueryFault}
-use Rattle.json_query.specs.QueryDocument.{ReadsQueryText}
+use Rattle.table.specs.QueryShape.{QueryShape}
+use Rattle.table.specs.QueryFault.{QueryFault}
+use Rattle.arrow_json.specs.QueryDocument.{ReadsQueryText}
 use Rattle.table.specs.History.{History}
 use Rattle.reports.specs.Exported.{exported}
 use Rattle.reports.specs.Fields.{schema_lines}

@@ -10,22 +10,22 @@ use Rattle.job.specs.Jobs.{names_of, text_of_query}
 use Rattle.job.specs.declared.jobs.Command.{Command}
 use Rattle.job.specs.declared.jobs.Command.TheVariants.{Stats, Schema, Validate, Head, Export, Query}
 use Rattle.job.specs.declared.jobs.Job.{Job}
-use Rattle.query.specs.FaultText.{query_fault_text}
-use Rattle.query.specs.declared.fault.QueryFault.{QueryFault}
-use Rattle.json_query.specs.QueryDocumentFault.{QueryBytesFault}
+use Rattle.table.specs.FaultText.{query_fault_text}
+use Rattle.table.specs.QueryFault.{QueryFault}
+use Rattle.arrow_json.specs.QueryDocumentFault.{QueryBytesFault}
 use Rattle.reports.specs.AddFaultText.{add_fault_text}
 use Rattle.arrowtab.specs.Column.{FailedColumn, IsAllowed, IsColumn, RefusesColumn, column_text, fields_with, history_with}
 use Rattle.arrowtab.specs.Output.{Prints, PrintsNothing}
 use Rattle.reports.specs.Lines.{column_fault_line, unread_line, file_line, query_line, refusal_line}
 use Rattle.arrowtab.specs.Loaded.{IsLoaded, IsStopped}
 use Rattle.reports.specs.FileBatches.{batches_with_fields, table_fields}
-use Rattle.json_read.specs.JsonFile.{Reads, BytesFault}
-use Rattle.json_base.specs.JsonFaultText.{fault_text}
-use Rattle.json_base.specs.JsonTable.{FileData}
+use Rattle.arrow_json.specs.JsonFile.{Reads, BytesFault}
+use Rattle.arrow_json.specs.JsonFaultText.{fault_text}
+use Rattle.arrow_json.specs.JsonTable.{FileData}
 use Rattle.table.specs.declared.add_fault.AddFault.{AddFault}
 use Rattle.table.specs.declared.refusal.Refusal.{Refusal}
-use Rattle.json_base.specs.declared.path.Step.{Step}
-use Rattle.json_base.specs.declared.fault.JsonFaultKind.{JsonFaultKind}
+use Rattle.arrow_json.specs.Step.{Step}
+use Rattle.arrow_json.specs.JsonFaultKind.{JsonFaultKind}
 
 -- What each source still has to give, where it tells it.
 abbrev pub Inputs : Type 0

@@ -1,8 +1,8 @@
 -- What the error sink took of a line.
 use Rattle.std.specs.Prelude.{◌≡◌, ℕ, ◌<◌, List, Option, Some, slice_get, ⊤}
 use Rattle.ends.specs.Line.{TookLine, memory_line}
-use Rattle.json_base.specs.JsonFaultText.{fault_text}
-use Rattle.query.specs.FaultText.{query_fault_text}
+use Rattle.arrow_json.specs.JsonFaultText.{fault_text}
+use Rattle.table.specs.FaultText.{query_fault_text}
 use Rattle.reports.specs.FaultLine.{column_fault_text, fault_line}
 use Rattle.reports.specs.Lines.{column_fault_line, query_line}
 use Rattle.reports.specs.declared.run_fault.RunFault.{RunFault}

@@ -1,15 +1,15 @@
 -- What a job wants to be printed, its query being read.
 use Rattle.std.specs.Prelude.{◌≡◌, ℕ, List, [], Option, Some, option_map, ⊤}
 use Rattle.arrays.specs.Shape.{FieldShape, field_of}
-use Rattle.json_read.specs.JsonField.{FieldTextFault}
+use Rattle.arrow_json.specs.JsonField.{FieldTextFault}
 use Rattle.job.specs.Jobs.{text_of_query}
 use Rattle.job.specs.declared.jobs.Command.{Command}
 use Rattle.job.specs.declared.jobs.Command.TheVariants as command
 use Rattle.job.specs.declared.jobs.Job.{Job}
-use Rattle.query.specs.Resolved.{named}
-use Rattle.query.specs.declared.fault.QueryFault.{QueryFault}
-use Rattle.query.specs.declared.queries.QueryText.{QueryText}
-use Rattle.json_query.specs.QueryDocument.{ReadsQueryText}
+use Rattle.table.specs.Resolved.{named}
+use Rattle.table.specs.QueryFault.{QueryFault}
+use Rattle.table.specs.QueryText.{QueryText}
+use Rattle.arrow_json.specs.QueryDocument.{ReadsQueryText}
 use Rattle.table.specs.History.{History}
 use Rattle.arrowtab.specs.Column.{IsColumn, column_text}
 use Rattle.reports.specs.Exported.{exported}

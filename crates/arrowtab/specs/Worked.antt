@@ -3,7 +3,7 @@ use Rattle.std.specs.Prelude.{◌≡◌, ℕ, All, List, ◌∷◌, length, map,
 use Rattle.arrays.specs.File.{File}
 use Rattle.arrays.specs.Shape.{FieldShape}
 use Rattle.loads.specs.Loaded.{AllLoaded, batches_of_files, fields_for}
-use Rattle.query.specs.declared.fault.QueryFault.{QueryFault}
+use Rattle.table.specs.QueryFault.{QueryFault}
 use Rattle.shared.specs.Hand.{AreNew, Hand, HasWidened}
 use Rattle.table.specs.Contents.{Contents}
 use Rattle.table.specs.History.{History}

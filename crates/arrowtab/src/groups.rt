@@ -1,19 +1,17 @@
 //! The output of `query`, over rows that are looked at in several pieces.
 ghost use Rattle.std.specs.Prelude.{◌≡◌, ◌≤◌, IfErr, IfOk, map, string_bytes};
-ghost use Rattle.answers.specs.Answers.{group_shape};
+ghost use Rattle.table.specs.Answers.{group_shape};
 ghost use Rattle.arrowtab.specs.Output.{shown_as};
-ghost use Rattle.query.specs.Resolved.{named};
+ghost use Rattle.table.specs.Resolved.{named};
 ghost use Rattle.reports.specs.Queried.{ShowsGroups};
 ghost use Rattle.reports.specs.QueryFaults.{IsUnanswered};
 
-use answers::{Answer, OpenGate};
-use colbits::NoMemory;
+use arrays::NoMemory;
 use job::Output;
-use query::QueryText;
 use reports::{RunFault, answer_of, group_arrays, group_lines, group_records, placed_query};
 use std::alloc::Global;
 use std::thread::Threads;
-use table::Version;
+use table::{Answer, OpenGate, QueryText, Version};
 
 /// What `query` prints for a version of the table, whose rows are looked at in so many pieces.
 pub(crate) fn groups_text<T: Threads + Sync>(

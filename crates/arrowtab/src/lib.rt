@@ -13,11 +13,12 @@ mod together;
 mod wanted;
 mod windows;
 
+pub use arrow_json::{JsonFault, JsonFaultKind, Member, Path, Step, fault_text};
 pub use ends::{
     ReadFailed, Sink, Source, SourceFault, WriteFailed, memory, read_whole, write_whole,
 };
 pub use invocation::run;
 pub use job::{Command, Job, JobFault, Output, QuerySource, is_standard_input, job, print_fault};
-pub use json_base::{JsonFault, JsonFaultKind, Member, Path, Step, fault_text};
 pub use query_file::read_query_file;
 pub use reports::refusal;
+pub use table::Refusal;

@@ -3,7 +3,7 @@ ghost use Rattle.std.specs.Prelude.{◌^◌, ◌-◌, ◌<◌, [], ◌∷◌, If
 ghost use Rattle.arrowtab.specs.TookFault.{IsLineOf, IsOfFile, TookFault};
 ghost use Rattle.job.specs.Jobs.{names_of};
 
-use colbits::NoMemory;
+use arrays::NoMemory;
 use ends::{Sink, tell_memory, write_line};
 use reports::{FileFault, RunFault, line_of};
 use std::alloc::Global;

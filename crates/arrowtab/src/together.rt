@@ -16,7 +16,6 @@ ghost use Rattle.shared.specs.Opened.{IsWorkerCount};
 ghost use Rattle.table.specs.Stored.{stored_field};
 ghost use Rattle.table.specs.Widened.{add_fault};
 
-use answers::OpenGate;
 use arrays::{Field, File, RecordBatch};
 use loads::{LoadFault, load_all};
 use reports::{ColumnFault, FileFault, RunFault};
@@ -25,7 +24,7 @@ use std::alloc::Global;
 use std::marker::Brand;
 use std::sync::{Arc, Wait};
 use std::thread::Threads;
-use table::{AddFault, Version};
+use table::{AddFault, OpenGate, Version};
 
 /// The table of the files, which so many workers load at once: it has the first file's schema. Behind all of them comes the
 /// column, where there is one.

@@ -6,12 +6,11 @@ ghost use Rattle.arrowtab.specs.Explained.{ExplainsText};
 ghost use Rattle.arrowtab.specs.Wanted.{IsColumnUnread, IsRequest, IsUnread, IsWanted};
 
 use arrays::Field;
+use arrow_json::{JsonFaultKind, read_field};
 use job::{Command, Job, Output};
-use json_base::JsonFaultKind;
-use json_read::read_field;
-use query::QueryText;
 use reports::{ColumnFault, RunFault, read_query_text};
 use std::alloc::Global;
+use table::QueryText;
 
 /// A command whose query is read.
 #[derive(Drop)]

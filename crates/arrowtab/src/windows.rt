@@ -3,10 +3,8 @@ ghost use Rattle.std.specs.Prelude.{IfErr, IfOk, OnOk, length, map};
 ghost use Rattle.std.specs.List.{AllZip};
 ghost use Rattle.reports.specs.Parsed.{AddsFiles, IsParsed, StopsParsing};
 
-use arrays::File;
-use colbits::NoMemory;
-use json_base::JsonFault;
-use json_file::read_file_from_vec;
+use arrays::{File, NoMemory};
+use arrow_json::{JsonFault, read_file_from_vec};
 use reports::{RunFault, text_fault};
 use std::alloc::Global;
 use std::thread::{Threads, map_vec};

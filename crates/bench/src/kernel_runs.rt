@@ -4,12 +4,11 @@
 use crate::fault::Fault;
 use crate::making::{Nulls, Rule, digits, longs, shorts, truths};
 use crate::{number, word};
-use arrays::{Array, DataType, OffsetWidth, View, ViewType};
+use arrays::{Array, DataType, INT32, OffsetWidth, View, ViewType};
 use kernels::{CmpOp, add, add_number, compare, compare_number, kleene_and};
 use pool::{TextPool, recode};
 use select::{filter, take};
 use std::alloc::Global;
-use types::INT32;
 
 /// A kernel, and the columns that it is run on.
 #[derive(Clone, Copy)]

@@ -1,9 +1,9 @@
 //! What columns and batches are made of: each value follows from its row.
 
-use arrays::{Array, DataType, Field, RawArray, RecordBatch, Schema, validate};
-use colbits::{BitmapBuf, Buffer};
+use arrays::{
+    Array, BitmapBuf, Buffer, DataType, Field, INT64, RawArray, RecordBatch, Schema, validate,
+};
 use std::alloc::Global;
-use types::INT64;
 
 /// How the number of a row follows from it.
 #[derive(Clone, Copy)]

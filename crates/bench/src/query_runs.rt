@@ -3,22 +3,18 @@
 //! times in so many pieces, and prints of each answer how many groups it has, and the numbers of their cells added up.
 
 ghost use Rattle.std.specs.Prelude.{◌≡◌, ◌≤◌, true};
-ghost use Rattle.query.specs.QueryShape.{query_shape};
-ghost use Rattle.query.specs.Fault.{fits};
+ghost use Rattle.table.specs.QueryShape.{query_shape};
+ghost use Rattle.table.specs.FirstFault.{fits};
 
 use crate::fault::Fault;
 use crate::making::{Nulls, Rule, batch, digits, longs, shorts};
 use crate::{number, word};
-use answers::{Answer, OpenGate};
-use arrays::{DataType, RecordBatch};
+use arrays::{DataType, INT32, RecordBatch};
 use arrow_json::read_query;
-use group::Scalar;
-use query::{Query, resolve};
 use std::alloc::Global;
 use std::sync::Arc;
 use std::thread::Threads;
-use table::{TableState, Version};
-use types::INT32;
+use table::{Answer, OpenGate, Query, Scalar, TableState, Version, resolve};
 
 /// A query of the table.
 pub(crate) const SUM_BY_TEXT: &str =

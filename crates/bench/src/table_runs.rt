@@ -6,11 +6,10 @@
 use crate::fault::Fault;
 use crate::making::{Nulls, Rule, batch, digits, field, longs};
 use crate::number;
-use arrays::{DataType, RecordBatch};
+use arrays::{DataType, INT64, RecordBatch};
 use std::alloc::Global;
 use std::sync::Arc;
 use table::{TableState, Version};
-use types::INT64;
 
 /// What a table is filled with.
 #[derive(Clone, Copy)]

@@ -13,16 +13,16 @@ use Rattle.arrays.specs.Seen.{Seen}
 use Rattle.arrays.specs.Shape.{FieldShape}
 use Rattle.arrays.proofs.BatchLemmas.{length-rows_of, whole}
 use Rattle.group.proofs.ColumnsLemmas.{all_zip-push}
-use Rattle.group.specs.Columns.{AreTheirs}
+use Rattle.group.specs.StatsOfColumns.{AreTheirs}
 use Rattle.group.specs.declared.stats.ColumnStats.{ColumnStats}
 use Rattle.compaction.specs.Fronts.{IsBatchOf}
-use Rattle.compaction.specs.Groups.{AreGroups, IsGroup, is_big, is_one, together}
+use Rattle.compaction.specs.Neighbours.{AreGroups, IsGroup, is_big, is_one, together}
 use Rattle.compaction.specs.Statistics.{AreOfFew, AreStatsOf}
 use Rattle.compaction.specs.Under.{HaveStats, IsUnder, pieces_of}
 use Rattle.compaction.proofs.FrontLemmas.{Shared, length-tables, tables_of}
 use Rattle.compaction.proofs.JoinedLemmas.{batches-of}
 use Rattle.compaction.proofs.StatisticsLemmas.{SharedStats, of-all-rows, of-columns}
-use Rattle.types.specs.Limits.{most_slots}
+use Rattle.arrays.specs.Limits.{most_slots}
 
 -- ---- parts of lists
 

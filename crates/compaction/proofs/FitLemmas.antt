@@ -8,13 +8,13 @@ use Rattle.std.proofs.lemmas.Grind.{flat_map-append}
 use Rattle.std.proofs.lemmas.List.Sums.{sum_by-append}
 use Rattle.arrays.specs.Batch.{Table, column}
 use Rattle.arrays.specs.Item.{Item}
-use Rattle.types.specs.declared.offset_width.OffsetWidth.TheVariants.{Narrow, Wide}
+use Rattle.arrays.specs.OffsetWidths.{Narrow, Wide}
 use Rattle.arrays.specs.Kind as kind
 use Rattle.arrays.specs.Kind.{Kind}
 use Rattle.arrays.specs.Lengths.{inner_items, is_past, is_too_big, items_in, text_bytes, text_length}
 use Rattle.arrays.specs.Shape.{FieldShape, kind_of_field}
 use Rattle.arrays.proofs.BatchLemmas.{some-found, column-append}
-use Rattle.compaction.specs.Groups.{is_big, is_one}
+use Rattle.compaction.specs.Neighbours.{is_big, is_one}
 
 pub less-past : (m n : ℕ) → m ≤ n → is_past n ≡ false → is_past m ≡ false
 less-past m n le few = grind (arith, nat_tests)

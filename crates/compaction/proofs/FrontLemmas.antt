@@ -19,13 +19,13 @@ use Rattle.arrays.specs.Shape as shape
 use Rattle.arrays.specs.Shape.{FieldShape, field, kind_of_field}
 use Rattle.arrays.proofs.BatchLemmas.{length-rows_of, column-append}
 use Rattle.compaction.specs.Fronts.{IsBatchOf, IsLongest, IsOfKind, fits_at, fits_in, has_few}
-use Rattle.compaction.specs.Groups.{IsGroup, is_big, is_one, together}
+use Rattle.compaction.specs.Neighbours.{IsGroup, is_big, is_one, together}
 use Rattle.compaction.specs.Sizes.{levels, size_at}
 use Rattle.compaction.proofs.BatchLemmas.{count-of, kind-at}
 use Rattle.compaction.proofs.FitLemmas.{big-any, column-front, is_big_at, less-past, none-of}
 use Rattle.compaction.proofs.GroupLemmas.{together-append, together-split}
 use Rattle.compaction.proofs.SizeLemmas.{fits-at-all, size-append, size-none, too-big-at}
-use Rattle.types.specs.Limits.{most_slots}
+use Rattle.arrays.specs.Limits.{most_slots}
 
 abbrev pub Shared : Type 0
 Shared = Arc Batch Global

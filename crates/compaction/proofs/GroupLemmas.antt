@@ -6,7 +6,7 @@ use Rattle.std.proofs.Math.Seq.{take-add}
 use Rattle.std.proofs.lemmas.Bool.{cases_lt}
 use Rattle.arrays.specs.Batch.{Table}
 use Rattle.arrays.specs.Shape.{FieldShape}
-use Rattle.compaction.specs.Groups.{AreApart, AreGroups, IsGroup, is_one, together}
+use Rattle.compaction.specs.Neighbours.{AreApart, AreGroups, IsGroup, is_one, together}
 use Rattle.compaction.proofs.FitLemmas.{not-one-more, one-front}
 
 pub together-append : (xs ys : List Table) → together (xs ++ ys) ≡ together xs ++ together ys

@@ -26,7 +26,7 @@ use Rattle.group.proofs.ColumnsLemmas.{all_zip-more, all_zip-push}
 use Rattle.select.specs.Joined.{kind_of_first}
 use Rattle.compaction.specs.Columns.{AreJoinable, IsColumnOf, IsJoined, IsOver}
 use Rattle.compaction.specs.Fronts.{IsBatchOf}
-use Rattle.compaction.specs.Groups.{is_big, together}
+use Rattle.compaction.specs.Neighbours.{is_big, together}
 use Rattle.compaction.specs.Under.{IsDictionary, IsUnder, NamesFront, NamesWhole, are_as_long, entry_count, is_as_long}
 use Rattle.compaction.proofs.BatchLemmas.{count-of, kind-at}
 use Rattle.compaction.proofs.FitLemmas.{big-any, is_big_at}

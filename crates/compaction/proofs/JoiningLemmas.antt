@@ -21,7 +21,7 @@ use Rattle.select.specs.declared.fault.SelectFault.TheVariants.{NoMemory}
 use Rattle.select.proofs.JoinLemmas.{fault-of}
 use Rattle.select.proofs.JoinedCodes.{length-codes-of}
 use Rattle.compaction.specs.Columns.{AreJoinable, IsJoined}
-use Rattle.layout.proofs.ChildLemmas.{same_kinds}
+use Rattle.arrays.proofs.ChildLemmas.{same_kinds}
 
 -- ---- what can't be refused
 

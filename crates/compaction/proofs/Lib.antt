@@ -1,4 +1,5 @@
 -- What the proofs of this crate share.
+pub use Rattle.select.proofs.ChosenLemmas
 pub mod FitLemmas
 pub mod GroupLemmas
 pub mod SizeLemmas

@@ -14,17 +14,17 @@ use Rattle.arrays.specs.Item.{Item}
 use Rattle.arrays.specs.Seen.{Seen}
 use Rattle.arrays.specs.Shape.{FieldShape, kind_of_field}
 use Rattle.arrays.proofs.BatchLemmas.{column-is, column-append, length-column}
-use Rattle.group.specs.Columns.{AreJoined, AreTheirs}
+use Rattle.group.specs.StatsOfColumns.{AreJoined, AreTheirs}
 use Rattle.group.specs.Summary.{AreStats}
 use Rattle.group.specs.declared.stats.ColumnStats.{ColumnStats}
 use Rattle.compaction.specs.Fronts.{IsBatchOf}
-use Rattle.compaction.specs.Groups.{together}
+use Rattle.compaction.specs.Neighbours.{together}
 use Rattle.compaction.specs.Statistics.{AreOfFew, AreStatsOf}
 use Rattle.compaction.specs.Under.{HaveStats, pieces_of}
 use Rattle.compaction.proofs.BatchLemmas.{count-of, kind-at}
 use Rattle.compaction.proofs.FrontLemmas.{any_field, rows-front, together-more}
 use Rattle.compaction.proofs.JoinedLemmas.{IsColumn, all_zip-at}
-use Rattle.types.specs.Limits.{most_slots}
+use Rattle.arrays.specs.Limits.{most_slots}
 
 -- ---- two tables
 

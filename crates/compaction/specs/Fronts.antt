@@ -5,7 +5,7 @@ use Rattle.arrays.specs.Kind.{Kind}
 use Rattle.arrays.specs.Lengths.{is_past, is_too_big}
 use Rattle.arrays.specs.Seen.{Seen}
 use Rattle.arrays.specs.Shape.{FieldShape}
-use Rattle.compaction.specs.Groups.{together}
+use Rattle.compaction.specs.Neighbours.{together}
 use Rattle.compaction.specs.Sizes.{size_at}
 
 -- The first n of so many tables at most: one table, or more whose rows together pass, and with the next they don't.

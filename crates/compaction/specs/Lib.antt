@@ -1,5 +1,6 @@
 -- What the contracts of this crate speak of.
-pub mod Groups
+pub use Rattle.select.specs.Chosen
+pub mod Neighbours
 pub mod Under
 pub mod Sizes
 pub mod Fronts

@@ -1,7 +1,7 @@
 -- How much texts and lists hold (Arrow columnar format, "Variable-size binary layout", "Variable-size list layout").
 use Rattle.std.specs.Prelude.{ℕ, zero, suc, List, length}
 use Rattle.arrays.specs.Item.{Item}
-use Rattle.types.specs.declared.offset_width.OffsetWidth.TheVariants.{Narrow}
+use Rattle.arrays.specs.OffsetWidths.{Narrow}
 use Rattle.arrays.specs.Kind.{Kind, texts, lists}
 use Rattle.arrays.specs.Lengths.{inner_items, text_bytes}
 

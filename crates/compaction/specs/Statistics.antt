@@ -5,8 +5,8 @@ use Rattle.arrays.specs.Batch.{Table, column}
 use Rattle.arrays.specs.Shape.{FieldShape, kind_of_field}
 use Rattle.group.specs.Summary.{AreStats}
 use Rattle.group.specs.declared.stats.ColumnStats.{ColumnStats}
-use Rattle.compaction.specs.Groups.{together}
-use Rattle.types.specs.Limits.{most_slots}
+use Rattle.compaction.specs.Neighbours.{together}
+use Rattle.arrays.specs.Limits.{most_slots}
 
 -- These are the statistics of the table's columns.
 abbrev pub AreStatsOf : List FieldShape → Table → List ColumnStats → Type 0

@@ -11,7 +11,7 @@ use Rattle.arrays.specs.Kind as kind
 use Rattle.arrays.specs.Kind.{same_kind}
 use Rattle.arrays.specs.Seen.{Seen}
 use Rattle.arrays.specs.Shape.{FieldShape, kind_of_field}
-use Rattle.group.specs.Columns.{AreTheirs}
+use Rattle.group.specs.StatsOfColumns.{AreTheirs}
 use Rattle.group.specs.declared.stats.ColumnStats.{ColumnStats}
 
 -- There is a dictionary of texts where the field is a dictionary-encoded one, and none where it isn't.

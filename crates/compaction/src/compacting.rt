@@ -4,14 +4,13 @@ ghost use Rattle.std.specs.Prelude.{All, IfOk, map, option_map};
 ghost use Rattle.std.specs.Arc.{arc_value};
 ghost use Rattle.std.specs.List.{AllZip};
 ghost use Rattle.arrays.specs.Batch.{rows_of};
-ghost use Rattle.compaction.specs.Groups.{AreGroups};
+ghost use Rattle.compaction.specs.Neighbours.{AreGroups};
 ghost use Rattle.compaction.specs.Under.{HaveStats, IsDictionary, IsUnder, pieces_of};
 
 use crate::groups::group_len;
 use crate::joining::batch_of;
 use crate::statistics::stats_of;
-use arrays::{RecordBatch, Schema, Words};
-use colbits::NoMemory;
+use arrays::{NoMemory, RecordBatch, Schema, Words};
 use group::ColumnStats;
 use std::alloc::Global;
 use std::sync::Arc;

@@ -9,8 +9,7 @@ ghost use Rattle.arrays.specs.Kind.{same_kind};
 ghost use Rattle.compaction.specs.Columns.{IsOver};
 ghost use Rattle.compaction.specs.Under.{IsDictionary, IsUnder, NamesFront, NamesWhole, are_as_long, entry_count, is_as_long};
 
-use arrays::{Array, RecordBatch, Schema, ViewType, Words};
-use colbits::NoMemory;
+use arrays::{Array, NoMemory, RecordBatch, Schema, ViewType, Words};
 use std::alloc::Global;
 use std::sync::Arc;
 

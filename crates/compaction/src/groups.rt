@@ -5,13 +5,12 @@ ghost use Rattle.std.specs.Arc.{arc_value};
 ghost use Rattle.arrays.specs.Batch.{Batch, rows_of};
 ghost use Rattle.arrays.specs.Kind.{Kind};
 ghost use Rattle.compaction.specs.Fronts.{IsBatchOf, IsLongest, IsOfKind, fits_at, fits_in, has_few};
-ghost use Rattle.compaction.specs.Groups.{IsGroup};
+ghost use Rattle.compaction.specs.Neighbours.{IsGroup};
 
 use crate::columns::column_of;
 use crate::sizes::{levels, with_size};
-use arrays::{RecordBatch, Schema};
+use arrays::{MOST_SLOTS, RecordBatch, Schema};
 use std::sync::Arc;
-use types::MOST_SLOTS;
 
 /// How many batches from the first on are one group.
 pub(crate) fn group_len(schema: &Schema, batches: &[Arc<RecordBatch>], max_rows: u32) -> usize

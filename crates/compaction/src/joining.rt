@@ -10,14 +10,13 @@ ghost use Rattle.arrays.specs.Lengths.{is_past};
 ghost use Rattle.arrays.specs.Seen.{Seen};
 ghost use Rattle.select.specs.Joined.{IsEncoded, is_joined_too_big, joined, kind_of_first};
 ghost use Rattle.compaction.specs.Columns.{AreJoinable, IsColumnOf, IsJoined};
-ghost use Rattle.compaction.specs.Groups.{is_big, together};
+ghost use Rattle.compaction.specs.Neighbours.{is_big, together};
 ghost use Rattle.compaction.specs.Under.{IsDictionary, IsUnder};
-ghost use Rattle.types.specs.Limits.{most_slots};
+ghost use Rattle.arrays.specs.Limits.{most_slots};
 
 use crate::columns::column_of;
 use crate::dictionaries::with_dictionaries;
-use arrays::{Array, RecordBatch, Schema, View, Words};
-use colbits::NoMemory;
+use arrays::{Array, NoMemory, RecordBatch, Schema, View, Words};
 use select::{SelectFault, concat};
 use std::alloc::Global;
 use std::sync::Arc;

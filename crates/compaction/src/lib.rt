@@ -11,3 +11,4 @@ mod statistics;
 
 pub use compacting::{Compacted, compact};
 pub use dictionaries::{names_whole, with_dictionaries};
+pub use select::copy;

@@ -6,10 +6,9 @@ ghost use Rattle.arrays.specs.Kind.{depth};
 ghost use Rattle.arrays.specs.Lengths.{inner_items, is_past, text_bytes};
 ghost use Rattle.arrays.specs.Slot.{is_list};
 ghost use Rattle.compaction.specs.Sizes.{levels, size_at};
-ghost use Rattle.types.specs.Limits.{most_slots};
+ghost use Rattle.arrays.specs.Limits.{most_slots};
 
-use arrays::{OffsetWidth, View, ViewType};
-use types::MOST_SLOTS;
+use arrays::{MOST_SLOTS, OffsetWidth, View, ViewType};
 
 /// At how many levels a view may hold too much: those of its lists, of the lists in them, and of the texts with offsets of
 /// 32 bits.

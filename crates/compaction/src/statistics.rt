@@ -5,11 +5,11 @@ ghost use Rattle.std.specs.Arc.{arc_value};
 ghost use Rattle.std.specs.List.{AllZip};
 ghost use Rattle.arrays.specs.Batch.{Table};
 ghost use Rattle.arrays.specs.Shape.{FieldShape};
-ghost use Rattle.compaction.specs.Groups.{together};
+ghost use Rattle.compaction.specs.Neighbours.{together};
 ghost use Rattle.compaction.specs.Statistics.{AreOfFew, AreStatsOf};
 ghost use Rattle.compaction.specs.Under.{pieces_of};
 
-use colbits::NoMemory;
+use arrays::NoMemory;
 use group::{ColumnStats, joined_all};
 use std::alloc::Global;
 use std::sync::Arc;

@@ -1,2 +1,3 @@
 -- What the proofs of this crate share.
+pub use Rattle.table.proofs.SendingLemmas
 mod LoadLemmas

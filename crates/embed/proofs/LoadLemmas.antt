@@ -10,11 +10,11 @@ use Rattle.arrays.specs.Batch.{Batch, Table, rows_of}
 use Rattle.arrays.specs.File.{File}
 use Rattle.arrays.specs.First.{first}
 use Rattle.arrays.specs.Shape.{FieldShape}
-use Rattle.json_base.specs.JsonFault.{Tells}
-use Rattle.json_base.specs.JsonTable.{FileData}
-use Rattle.json_base.specs.declared.fault.JsonFault.{JsonFault}
-use Rattle.json_base.specs.declared.fault.JsonFaultKind.TheVariants.{NoMemory as wanting}
-use Rattle.json_read.specs.JsonFile.{AreUnder, BytesFault, Reads, file_of}
+use Rattle.arrow_json.specs.FaultAt.{Tells}
+use Rattle.arrow_json.specs.JsonTable.{FileData}
+use Rattle.arrow_json.specs.JsonFault.{JsonFault}
+use Rattle.arrow_json.specs.JsonFaultKinds.{NoMemory as wanting}
+use Rattle.arrow_json.specs.JsonFile.{AreUnder, BytesFault, Reads, file_of}
 use Rattle.table.specs.Cause.{IsLegal, batch_cause, cause, difference}
 use Rattle.table.specs.Contents.{Contents}
 use Rattle.table.specs.History.{History}

@@ -1,12 +1,12 @@
 -- What a table answers to the bytes of a query.
 use Rattle.std.specs.Prelude.{◌≡◌, ℕ, List, [], Ok, ⊤}
-use Rattle.answers.specs.Groups.{GroupShape, groups}
+use Rattle.table.specs.Groups.{GroupShape, groups}
 use Rattle.arrays.specs.Batch.{Batch}
 use Rattle.arrays.specs.Shape.{FieldShape}
-use Rattle.json_query.specs.QueryDocument.{ReadsQueryText}
-use Rattle.json_query.specs.QueryDocumentFault.{QueryBytesFault}
-use Rattle.query.specs.QueryShape.{QueryShape}
-use Rattle.query.specs.Resolved.{resolved}
+use Rattle.arrow_json.specs.QueryDocument.{ReadsQueryText}
+use Rattle.arrow_json.specs.QueryDocumentFault.{QueryBytesFault}
+use Rattle.table.specs.QueryShape.{QueryShape}
+use Rattle.table.specs.Resolved.{resolved}
 use Rattle.results.specs.Result.{result_batch}
 use Rattle.results.specs.Types.{result_types}
 use Rattle.table.specs.Contents.{Contents, admitted}

@@ -2,8 +2,8 @@
 use Rattle.std.specs.Prelude.{◌≡◌, ℕ, List, All, None, map}
 use Rattle.std.specs.List.{AllZip, flat_map}
 use Rattle.arrays.specs.Shape.{FieldShape}
-use Rattle.json_base.specs.JsonTable.{FileData}
-use Rattle.json_read.specs.JsonFile.{Reads}
+use Rattle.arrow_json.specs.JsonTable.{FileData}
+use Rattle.arrow_json.specs.JsonFile.{Reads}
 use Rattle.table.specs.Cause.{IsLegal, difference}
 use Rattle.table.specs.History.{History}
 use Rattle.reports.specs.FileBatches.{FileBatch, batches_with_fields, table_fields}

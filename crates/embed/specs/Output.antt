@@ -2,10 +2,10 @@
 use Rattle.std.specs.Prelude.{◌≡◌, ℕ, List, [], ⊤}
 use Rattle.std.specs.Fmt.{decimal}
 use Rattle.arrays.specs.Shape.{FieldShape}
-use Rattle.json_query.specs.QueryDocument.{ReadsQueryText}
-use Rattle.json_query.specs.QueryDocumentFault.{QueryBytesFault}
-use Rattle.query.specs.QueryShape.{QueryShape}
-use Rattle.query.specs.declared.fault.QueryFault.{QueryFault}
+use Rattle.arrow_json.specs.QueryDocument.{ReadsQueryText}
+use Rattle.arrow_json.specs.QueryDocumentFault.{QueryBytesFault}
+use Rattle.table.specs.QueryShape.{QueryShape}
+use Rattle.table.specs.QueryFault.{QueryFault}
 use Rattle.table.specs.History.{History}
 use Rattle.reports.specs.Exported.{exported}
 use Rattle.reports.specs.FaultLine.{line_under}

@@ -2,9 +2,9 @@
 use Rattle.std.specs.Prelude.{◌≡◌, ◌++◌, ℕ, List, Some, slice_get, take, ⊤}
 use Rattle.std.specs.List.{AllZip}
 use Rattle.arrays.specs.Shape.{FieldShape}
-use Rattle.json_base.specs.JsonTable.{FileData}
-use Rattle.json_base.specs.declared.fault.JsonFault.{JsonFault}
-use Rattle.json_read.specs.JsonFile.{BytesFault, Reads}
+use Rattle.arrow_json.specs.JsonTable.{FileData}
+use Rattle.arrow_json.specs.JsonFault.{JsonFault}
+use Rattle.arrow_json.specs.JsonFile.{BytesFault, Reads}
 use Rattle.table.specs.Cause.{IsLegal, handed_cause}
 use Rattle.table.specs.declared.refusal.Refusal.{Refusal}
 use Rattle.reports.specs.FileBatches.{FileBatch, batches_with_fields, table_fields}

@@ -1,18 +1,16 @@
 //! What a query answers, as a table.
 ghost use Rattle.std.specs.Prelude.{◌≡◌, IfErr, IfOk, Ok, true};
 ghost use Rattle.embed.specs.Answer.{IsAnswerTable, IsNamedAnswer, IsPlacedAnswer, StopsAnswer, of_batch};
-ghost use Rattle.query.specs.Fault.{fits};
-ghost use Rattle.query.specs.QueryShape.{query_shape};
-ghost use Rattle.query.specs.Resolved.{named, resolved};
+ghost use Rattle.table.specs.FirstFault.{fits};
+ghost use Rattle.table.specs.QueryShape.{query_shape};
+ghost use Rattle.table.specs.Resolved.{named, resolved};
 ghost use Rattle.reports.specs.QueryFaults.{IsUnanswered, IsUnplaced};
 
-use arrays::RecordBatch;
-use colbits::NoMemory;
-use query::{Query, QueryText};
+use arrays::{NoMemory, RecordBatch};
 use reports::{RunFault, column_names, placed_groups, placed_query, read_query_text};
 use results::{result_batch, result_types};
 use std::alloc::Global;
-use table::{TableState, Version};
+use table::{Query, QueryText, TableState, Version};
 
 /// The table of the groups that a query of these bytes asks of a version.
 pub(crate) fn answer_table(

@@ -3,7 +3,7 @@ ghost use Rattle.std.specs.Prelude.{◌≡◌, IfErr, IfOk, map, string_bytes};
 ghost use Rattle.embed.specs.Answer.{IsAnswerTable, PrintsAnswer, StopsAnswer};
 ghost use Rattle.embed.specs.Loaded.{HoldsFiles};
 ghost use Rattle.embed.specs.Refused.{StopsTexts};
-ghost use Rattle.query.specs.Resolved.{named};
+ghost use Rattle.table.specs.Resolved.{named};
 ghost use Rattle.reports.specs.Exported.{exported};
 ghost use Rattle.reports.specs.Fields.{schema_lines};
 ghost use Rattle.reports.specs.Queried.{PrintsGroups};
@@ -13,11 +13,10 @@ ghost use Rattle.reports.specs.Shown.{stats_text};
 use crate::loading::load_files;
 use crate::reading::read_files;
 use crate::snapshot::Snapshot;
-use colbits::NoMemory;
-use query::QueryText;
+use arrays::NoMemory;
 use reports::RunFault;
 use std::alloc::Global;
-use table::TableState;
+use table::{QueryText, TableState};
 
 /// A table that answers as `arrowtab` does. What is added to its state, or changed there, is in the next answer.
 #[derive(Drop)]

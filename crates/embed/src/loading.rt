@@ -4,12 +4,11 @@ ghost use Rattle.std.specs.Arc.{arc_value};
 ghost use Rattle.std.specs.List.{AllByRecursion};
 ghost use Rattle.embed.specs.Loaded.{AddsAll, all_batches};
 ghost use Rattle.embed.specs.Refused.{StopsIn, StopsFiles};
-ghost use Rattle.json_read.specs.JsonFile.{AreUnder, file_of};
+ghost use Rattle.arrow_json.specs.JsonFile.{AreUnder, file_of};
 ghost use Rattle.reports.specs.FileBatches.{FileBatch, batch_of, table_fields};
 ghost use Rattle.table.specs.Stored.{stored_fields};
 
-use arrays::{File, RecordBatch, Schema};
-use colbits::NoMemory;
+use arrays::{File, NoMemory, RecordBatch, Schema};
 use reports::{FileFault, RunFault};
 use std::alloc::Global;
 use std::sync::Arc;

@@ -5,7 +5,7 @@ ghost use Rattle.embed.specs.Refused.{StopsTexts};
 ghost use Rattle.reports.specs.Parsed.{IsTextOf};
 
 use arrays::File;
-use json_file::read_file;
+use arrow_json::read_file;
 use reports::{RunFault, text_fault};
 use std::alloc::Global;
 

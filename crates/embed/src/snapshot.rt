@@ -1,7 +1,7 @@
 //! A table at a moment, in one's own process.
 ghost use Rattle.std.specs.Prelude.{◌≡◌, IfErr, IfOk, string_bytes};
 ghost use Rattle.embed.specs.Answer.{IsAnswerTable, PrintsAnswer, StopsAnswer};
-ghost use Rattle.query.specs.Resolved.{named};
+ghost use Rattle.table.specs.Resolved.{named};
 ghost use Rattle.reports.specs.Exported.{exported};
 ghost use Rattle.reports.specs.Fields.{schema_lines};
 ghost use Rattle.reports.specs.Queried.{PrintsGroups};
@@ -10,11 +10,10 @@ ghost use Rattle.reports.specs.Shown.{stats_text};
 
 use crate::answering::answer_table;
 use crate::loaded::Loaded;
-use colbits::NoMemory;
-use query::QueryText;
+use arrays::NoMemory;
 use reports::{RunFault, export_text, groups_text, read_query_text, schema_text, stats_text};
 use std::alloc::Global;
-use table::Version;
+use table::{QueryText, Version};
 
 /// A table as it was at a moment. It stays so, whatever is added to the table, and answers as `arrowtab` does. Its rows are those of
 /// the table, which aren't copied; its batches are [`Version::batches`].

@@ -4,7 +4,7 @@ ghost use Rattle.embed.specs.Output.{AreLoadable, IsAnswered, IsExport, IsSchema
 ghost use Rattle.embed.specs.Refused.{StopsTexts};
 
 use crate::loaded::Loaded;
-use colbits::NoMemory;
+use arrays::NoMemory;
 use reports::{RunFault, read_query_text};
 use std::alloc::Global;
 

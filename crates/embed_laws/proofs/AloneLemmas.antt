@@ -3,9 +3,9 @@ use Rattle.std.proofs.Common.{zero, suc, ◌%◌, take, option_map, ◌≡◌, �
 use Rattle.std.proofs.lemmas.Option.{slice_get-map}
 use Rattle.std.specs.Prelude.{All}
 use Rattle.std.specs.List.{AllByRecursion, AllZip, flat_map}
-use Rattle.arrays.specs.Shape.{FieldShape}
-use Rattle.json_base.specs.JsonTable.{FileData}
-use Rattle.json_read.specs.JsonFile.{Reads}
+use Rattle.arrowtab.specs.Shape.{FieldShape}
+use Rattle.arrowtab.specs.JsonTable.{FileData}
+use Rattle.arrowtab.specs.JsonFile.{Reads}
 use Rattle.job.specs.Jobs.{text_of_query}
 use Rattle.job.specs.declared.jobs.Command.{Command}
 use Rattle.job.specs.declared.jobs.Command.TheVariants as command
@@ -13,16 +13,16 @@ use Rattle.job.specs.declared.jobs.Job.{Job}
 use Rattle.job.specs.declared.jobs.Output.{Output}
 use Rattle.job.specs.declared.jobs.Output.TheVariants as output
 use Rattle.job.specs.declared.jobs.QuerySource.{QuerySource}
-use Rattle.table.specs.Cause.{difference}
-use Rattle.table.specs.History.{History}
-use Rattle.loads.specs.Plan.{planned}
-use Rattle.reports.proofs.ParseLemmas.{zip_map}
-use Rattle.reports.specs.FileBatches.{FileBatch, batches_with_fields, table_fields, batch_tables}
-use Rattle.query.specs.declared.fault.QueryFault.{QueryFault}
-use Rattle.table.specs.declared.refusal.Refusal.{Refusal}
-use Rattle.reports.specs.declared.run_fault.FileFault.TheVariants.{CannotRead, Json, Refused}
-use Rattle.reports.specs.declared.run_fault.RunFault.{RunFault}
-use Rattle.reports.specs.declared.run_fault.RunFault.TheVariants.{NoMemory, OfColumn, OfFile, QueryUnread, QueryRefused}
+use Rattle.arrowtab.specs.Cause.{difference}
+use Rattle.arrowtab.specs.History.{History}
+use Rattle.arrowtab.specs.Plan.{planned}
+use Rattle.arrowtab.proofs.ParseLemmas.{zip_map}
+use Rattle.arrowtab.specs.FileBatches.{FileBatch, batches_with_fields, table_fields, batch_tables}
+use Rattle.arrowtab.specs.QueryFault.{QueryFault}
+use Rattle.arrowtab.specs.Refusal.{Refusal}
+use Rattle.arrowtab.specs.FileFaults.{CannotRead, Json, Refused}
+use Rattle.arrowtab.specs.RunFault.{RunFault}
+use Rattle.arrowtab.specs.RunFaults.{NoMemory, OfColumn, OfFile, QueryUnread, QueryRefused}
 use Rattle.embed.specs.Output.{AreLoadable, IsAnswered, IsExport, IsQueryRefused, IsSchema, IsStats, OfTable, StopsQuery}
 use Rattle.embed.specs.Refused.{IsBatchRefused, StopsTexts}
 use Rattle.embed.specs.Loaded.{AddsAll, added, all_batches}
@@ -31,7 +31,7 @@ use Rattle.arrowtab.specs.Explained.{Explains}
 use Rattle.arrowtab.specs.Loaded.{IsLoaded, IsStopped, added_by}
 use Rattle.arrowtab.specs.Output.{Prints, PrintsNothing}
 use Rattle.arrowtab.specs.Run.{Answers, AreRead, FailedQuery, Refuses, RefusesQuery}
-use Rattle.loads.proofs.PlanLemmas.{all_from, all_split, by_recursion, planned_alone}
+use Rattle.arrowtab.proofs.PlanLemmas.{all_from, all_split, by_recursion, planned_alone}
 
 module _ (fields : List FieldShape) where
   abbrev Alike : FileBatch → Type 0

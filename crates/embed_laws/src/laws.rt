@@ -11,7 +11,7 @@ ghost use Rattle.job.specs.declared.jobs.Job.{Job};
 ghost use Rattle.job.specs.declared.jobs.Output.{Output};
 ghost use Rattle.job.specs.declared.jobs.Output.TheVariants as output;
 ghost use Rattle.job.specs.declared.jobs.QuerySource.{QuerySource};
-ghost use Rattle.reports.specs.declared.run_fault.RunFault.{RunFault};
+ghost use Rattle.arrowtab.specs.RunFault.{RunFault};
 
 /// What the library gives of files, from their bytes, is what the program prints of them with one worker and without a column; and
 /// what stands against it stands against that.

@@ -7,11 +7,11 @@ use Rattle.std.specs.declared.cmp.Ordering.{Ordering}
 use Rattle.std.specs.declared.cmp.Ordering.TheVariants.{Less, Equal, Greater}
 use Rattle.std.proofs.lemmas.Cmp.{int_cmp_total}
 use Rattle.std.proofs.lemmas.List.{get_or-replicate, length-replicate}
-use Rattle.types.specs.Kind as kind
-use Rattle.types.specs.Kind.{int64, Kind, same_int}
-use Rattle.types.specs.Number.{is_of_type}
-use Rattle.types.specs.declared.int_type.Width.{Width}
-use Rattle.types.specs.declared.int_type.Width.TheVariants.{W8, W16, W32, W64}
+use Rattle.arrays.specs.Kind as kind
+use Rattle.arrays.specs.Kind.{int64, Kind, same_int}
+use Rattle.arrays.specs.Number.{is_of_type}
+use Rattle.arrays.specs.Width.{Width}
+use Rattle.arrays.specs.Widths.{W8, W16, W32, W64}
 use Rattle.arrays.specs.Item.{Item, null, int, boolean, text, list}
 use Rattle.arrays.specs.Seen.{Seen}
 use Rattle.arrays.specs.Shown.{shown}

@@ -2,16 +2,16 @@
 use Rattle.std.proofs.Common.{◌≡◌, ◌∙◌, ℕ, ◌&&◌, ℤ, List, length, Bool, true, false, not, cond, eqb, is_some, replicate, zero-add, Option, Some, None, Result, Ok, Err, IfErr, IfOk, ap, sym, refl, subst, true≢false, eq-eqb, inl, inr}
 use Rattle.arrays.specs.Item.{Item, null, int, boolean, text, list, is_null}
 use Rattle.arrays.specs.Slot.{holds_at, item_at}
-use Rattle.types.specs.Number.{is_of_type}
-use Rattle.types.specs.declared.int_type.IntType.{IntType}
-use Rattle.truths.specs.Truth.{truth_at, truths_of}
+use Rattle.arrays.specs.Number.{is_of_type}
+use Rattle.arrays.specs.IntType.{IntType}
+use Rattle.kernels.specs.Truth.{truth_at, truths_of}
 use Rattle.std.proofs.lemmas.List.{length-replicate, get_or-replicate}
 use Rattle.std.proofs.lemmas.List.FromFn.{get_or-map-range_with_len, length-map-range_with_len}
 use Rattle.std.specs.Prelude.{option_and_then}
 use Rattle.arrays.specs.Seen.{Seen}
 use Rattle.arrays.specs.Shown.{shown}
-use Rattle.types.specs.Kind as kind
-use Rattle.types.specs.Kind.{Kind, same_kind, int64}
+use Rattle.arrays.specs.Kind as kind
+use Rattle.arrays.specs.Kind.{Kind, same_kind, int64}
 use Rattle.kernels.specs.Arithmetic.{arithmetic_fault, exact, operands_fault, results}
 use Rattle.kernels.specs.Fault.{IsKernelFault}
 use Rattle.kernels.specs.Kleene.{conjunction, disjunction, negation, truth_fault, truths_fault}

@@ -6,9 +6,9 @@ use Rattle.arrays.specs.Item.{null}
 use Rattle.arrays.specs.Kind as kind
 use Rattle.arrays.specs.Kind.{Kind}
 use Rattle.arrays.specs.Slot.{is_list}
-use Rattle.types.specs.Shape.{FieldShape, boolean, field, kind_of_field}
-use Rattle.query.specs.Columns.{sort_at}
-use Rattle.query.specs.Fault.{fault_unless}
+use Rattle.arrays.specs.Shape.{FieldShape, boolean, field, kind_of_field}
+use Rattle.query.specs.CalledColumns.{sort_at}
+use Rattle.query.specs.FirstFault.{fault_unless}
 use Rattle.query.specs.Sorts.{is_plain, sort_of_kind}
 use Rattle.query.specs.declared.fault.QueryFault.{QueryFault}
 use Rattle.query.specs.declared.fault.QueryFault.TheVariants.{WrongKind}

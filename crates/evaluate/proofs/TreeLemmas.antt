@@ -4,9 +4,9 @@ use Rattle.std.specs.Prelude.{option_and_then}
 use Rattle.std.specs.Option.{ok_or}
 use Rattle.arrays.specs.Batch.{Batch, Row}
 use Rattle.arrays.specs.Item.{Item}
-use Rattle.types.specs.Shape.{FieldShape}
+use Rattle.arrays.specs.Shape.{FieldShape}
 use Rattle.query.specs.Checked.{all_checked, and_then, checked, sort_of_operator}
-use Rattle.query.specs.Columns.{sort_at}
+use Rattle.query.specs.CalledColumns.{sort_at}
 use Rattle.query.specs.Sorts.{sort_of_one, sort_of_two}
 use Rattle.std.specs.declared.vec.Vec.{Vec}
 use Rattle.std.specs.declared.alloc.Global.{Global}

@@ -11,7 +11,7 @@ use Rattle.kernels.specs.declared.fault.KernelFault.TheVariants as fault
 use Rattle.kernels.specs.declared.fault.KernelFault.TheVariants.{LengthsDiffer, Overflow, TypesDiffer}
 use Rattle.query.specs.declared.expr.Op.{Op}
 use Rattle.query.specs.declared.expr.Op.TheVariants as op
-use Rattle.query.specs.Columns.{sort_at}
+use Rattle.query.specs.CalledColumns.{sort_at}
 use Rattle.query.specs.Sorts.{sort_of_kind}
 use Rattle.query.specs.Tree.{Tree}
 use Rattle.query.specs.declared.sort.Sort.{Sort}

@@ -3,11 +3,11 @@ use Rattle.std.specs.Prelude.{◌≡◌, ◌<◌, ℕ, Ok, length, slice_index_o
 use Rattle.arrays.specs.Batch.{Batch, row_of}
 use Rattle.arrays.specs.Item.{null}
 use Rattle.arrays.specs.Seen.{Seen}
-use Rattle.query.specs.Columns.{sort_at}
+use Rattle.query.specs.CalledColumns.{sort_at}
 use Rattle.query.specs.Sorts.{sort_of_kind}
 use Rattle.arrays.specs.Kind as kind
 use Rattle.arrays.specs.Kind.{Kind}
-use Rattle.types.specs.Shape.{FieldShape, kind_of_field}
+use Rattle.arrays.specs.Shape.{FieldShape, kind_of_field}
 
 -- The column is of the sort of its field, with an item for each row.
 pub record HasColumn (b : Batch) (place : ℕ) (c : Seen) : Type 0 where

@@ -6,7 +6,7 @@ use Rattle.arrays.specs.Item.{Item}
 use Rattle.arrays.specs.Seen.{Seen, part}
 use Rattle.arrays.specs.Slot.{item_at}
 use Rattle.query.specs.Checked.{checked}
-use Rattle.query.specs.Columns.{sort_at}
+use Rattle.query.specs.CalledColumns.{sort_at}
 use Rattle.query.specs.Sorts.{sort_of_kind}
 use Rattle.query.specs.Tree.{Tree}
 use Rattle.query.specs.declared.sort.Sort.{Sort}

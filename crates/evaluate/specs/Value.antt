@@ -4,7 +4,7 @@ use Rattle.arrays.specs.Batch.{Row}
 use Rattle.arrays.specs.Item as item
 use Rattle.arrays.specs.Item.{Item, null, is_null}
 use Rattle.arrays.specs.Slot.{item_of_bool}
-use Rattle.types.specs.Shape.{FieldShape}
+use Rattle.arrays.specs.Shape.{FieldShape}
 use Rattle.kernels.specs.Arithmetic.{exact, is_outside}
 use Rattle.kernels.specs.Kleene.{and_known, or_known, truth_of}
 use Rattle.kernels.specs.Lift.{lifted}
@@ -18,7 +18,7 @@ use Rattle.query.specs.declared.fault.QueryFault.{QueryFault}
 use Rattle.query.specs.declared.sort.Sort.{Sort}
 use Rattle.query.specs.declared.sort.Sort.TheVariants.{Int}
 use Rattle.query.specs.Checked.{checked}
-use Rattle.query.specs.Columns.{sort_at}
+use Rattle.query.specs.CalledColumns.{sort_at}
 use Rattle.query.specs.Tree as tree
 use Rattle.query.specs.Tree.{Tree, Trees}
 

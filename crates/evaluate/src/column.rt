@@ -1,7 +1,7 @@
 //! The columns that a query names by their places.
 
 ghost use Rattle.std.specs.Prelude.{◌≡◌, Some, is_ok, slice_get, true};
-ghost use Rattle.query.specs.Columns.{sort_at};
+ghost use Rattle.query.specs.CalledColumns.{sort_at};
 ghost use Rattle.evaluate.specs.Rows.{HasColumn, kind_at};
 
 use arrays::{RecordBatch, View};

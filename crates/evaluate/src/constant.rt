@@ -1,14 +1,13 @@
 //! Columns that have one value at each row.
 
 ghost use Rattle.std.specs.Prelude.{◌≡◌, ◌≤◌, IfOk, replicate};
-ghost use Rattle.types.specs.Kind as kind;
-ghost use Rattle.types.specs.Number.{IsOfType};
+ghost use Rattle.arrays.specs.Kind as kind;
+ghost use Rattle.arrays.specs.Number.{IsOfType};
 ghost use Rattle.arrays.specs.Item as item;
 ghost use Rattle.arrays.specs.Shown.{shown};
-ghost use Rattle.types.specs.Limits.{most_slots};
+ghost use Rattle.arrays.specs.Limits.{most_slots};
 
-use arrays::{Array, BoolBuilder, IntBuilder, IntType};
-use colbits::NoMemory;
+use arrays::{Array, BoolBuilder, IntBuilder, IntType, NoMemory};
 use std::alloc::Global;
 
 /// The number at each of so many rows.

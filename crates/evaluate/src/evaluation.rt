@@ -2,7 +2,7 @@
 
 ghost use Rattle.std.specs.Prelude.{◌≡◌, true, is_ok, IfOk, IfErr};
 ghost use Rattle.query.specs.Checked.{checked};
-ghost use Rattle.query.specs.Columns.{sort_at};
+ghost use Rattle.query.specs.CalledColumns.{sort_at};
 ghost use Rattle.query.specs.Tree.{tree_of};
 ghost use Rattle.evaluate.specs.Making.{IsColumn, StopsAt};
 ghost use Rattle.evaluate.specs.Slices.{AreValues};

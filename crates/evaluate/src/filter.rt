@@ -3,8 +3,8 @@
 ghost use Rattle.std.specs.Prelude.{◌≡◌, ◌<◌, true, None, is_ok, IfOk, IfErr};
 ghost use Rattle.query.specs.QueryShape.{query_shape};
 ghost use Rattle.query.specs.Checked.{checked};
-ghost use Rattle.query.specs.Columns.{sort_at};
-ghost use Rattle.query.specs.Fault.{fits};
+ghost use Rattle.query.specs.CalledColumns.{sort_at};
+ghost use Rattle.query.specs.FirstFault.{fits};
 ghost use Rattle.query.specs.Tree.{tree_of};
 ghost use Rattle.evaluate.specs.Value.{value};
 ghost use Rattle.evaluate.specs.Slices.{AreFilterValues, AreValues, IsFilterStop, IsLeastStop, row_in};

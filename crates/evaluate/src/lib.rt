@@ -13,3 +13,5 @@ pub mod slice;
 pub mod stop;
 mod text;
 pub mod values;
+
+pub use query::Agg;

@@ -9,17 +9,16 @@ ghost use Rattle.query.specs.Sorts.{sort_of_kind, sort_of_one, sort_of_two};
 ghost use Rattle.evaluate.specs.Value.{of_one, of_two};
 ghost use Rattle.evaluate.specs.Making.{AreMade, StopsMaking, in_order, is_text_alone};
 ghost use Rattle.evaluate.specs.Slices.{AreEnough, column_of, item_in, sort_in};
-ghost use Rattle.types.specs.Limits.{most_slots};
+ghost use Rattle.arrays.specs.Limits.{most_slots};
 
 use crate::constant::{repeated_number, repeated_truth};
 use crate::stop::Stop;
 use crate::text::{compare_texts, compare_with_text};
 use crate::values::{Operand, Values};
 use crate::{columns, number};
-use arrays::View;
+use arrays::{INT64, View};
 use query::Op;
 use std::alloc::Global;
-use types::INT64;
 
 /// What an operator makes of one operand.
 pub(crate) fn of_one<'a>(

@@ -1,6 +1,6 @@
 //! Why an expression has no values.
 
-use colbits::NoMemory;
+use arrays::NoMemory;
 
 /// Why an expression has no values at some rows.
 #[derive(Clone, Copy, Debug, PartialEq, Eq)]

@@ -9,18 +9,17 @@ ghost use Rattle.query.specs.Sorts.{sort_of_kind, sort_of_two};
 ghost use Rattle.query.specs.declared.sort.Sort.TheVariants as sort;
 ghost use Rattle.evaluate.specs.Value.{of_two};
 ghost use Rattle.evaluate.specs.Making.{AreMade, in_order};
-ghost use Rattle.types.specs.Limits.{most_slots};
+ghost use Rattle.arrays.specs.Limits.{most_slots};
 
 use crate::columns::comparison_of;
 use crate::constant::repeated_truth;
 use crate::stop::Stop;
 use crate::values::{Operand, Values};
 use arrays::View;
-use kernels::CmpOp;
+use kernels::{CmpOp, Truths, array_of};
 use query::Op;
 use std::alloc::Global;
 use std::cmp::Ordering;
-use truths::{Truths, array_of};
 
 /// A comparison of two texts, the first of which may stand behind the other, at each row.
 pub(crate) fn compare_texts<'a>(

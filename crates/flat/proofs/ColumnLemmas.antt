@@ -1,12 +1,12 @@
 -- What a field's parts are, by its kind.
 use Rattle.std.proofs.Common.{◌≡◌, ◌∙◌, ℕ, List, ◌∷◌, Some, None, ap, sym}
-use Rattle.layout.specs.Reading.{Reading}
-use Rattle.layout.specs.Seen.{Seen}
-use Rattle.layout.specs.declared.fault.LayoutFault.{LayoutFault}
-use Rattle.types.specs.Kind.{kind_of}
-use Rattle.types.specs.Shape.{field_of, kind_of_field}
-use Rattle.types.specs.declared.data_type.Field.{Field, out-Field}
-use Rattle.types.proofs.ShapeLemmas.{kind_of_field-field_of}
+use Rattle.arrays.specs.Reading.{Reading}
+use Rattle.arrays.specs.Seen.{Seen}
+use Rattle.arrays.specs.LayoutFault.{LayoutFault}
+use Rattle.arrays.specs.Kind.{kind_of}
+use Rattle.arrays.specs.Shape.{field_of, kind_of_field}
+use Rattle.arrays.specs.Field.{Field, out-Field}
+use Rattle.arrays.proofs.ShapeLemmas.{kind_of_field-field_of}
 use Rattle.flat.specs.Batch.{IsColumn, StopsArray}
 use Rattle.flat.specs.Parts.{read_column}
 use Rattle.flat.specs.declared.fault.FlatFault.{FlatFault}

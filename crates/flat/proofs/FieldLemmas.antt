@@ -1,13 +1,13 @@
 -- The columns that nodes begin with.
 use Rattle.std.proofs.Common.{◌≡◌, ◌∙◌, ◌+◌, ◌-◌, ℕ, zero, suc, List, [], ◌∷◌, Some, None, Bool, true, false, not, ap, drop, inl, inr, refl, subst, sym, arith}
 use Rattle.std.specs.Bool.{then_some}
-use Rattle.types.specs.declared.data_type.DataType.{DataType, fold_out-DataType, map-DataType}
-use Rattle.types.specs.declared.data_type.DataType.TheVariants.{Dict, outs-Dict}
-use Rattle.types.specs.declared.data_type.Field.{Field}
-use Rattle.types.specs.declared.int_type.IntType.{IntType}
-use Rattle.types.specs.declared.offset_width.OffsetWidth.{OffsetWidth}
-use Rattle.types.specs.Shape as shape
-use Rattle.types.specs.Shape.{FieldShape, Shape, field_of, field_step, shape_of, shape_step}
+use Rattle.arrays.specs.DataType.{DataType, fold_out-DataType, map-DataType}
+use Rattle.arrays.specs.DataTypes.{Dict, outs-Dict}
+use Rattle.arrays.specs.Field.{Field}
+use Rattle.arrays.specs.IntType.{IntType}
+use Rattle.arrays.specs.OffsetWidth.{OffsetWidth}
+use Rattle.arrays.specs.Shape as shape
+use Rattle.arrays.specs.Shape.{FieldShape, Shape, field_of, field_step, shape_of, shape_step}
 use Rattle.flat.specs.Content.{content_of}
 use Rattle.flat.specs.Fields.{Begins, IsCoded, dictionary_fault, field_named, is_dictionary}
 use Rattle.flat.specs.declared.content.Content.TheVariants as content

@@ -12,28 +12,28 @@ use Rattle.arrays.proofs.BatchLemmas.{kinds, whole}
 use Rattle.arrays.specs.Batch.{Batch, batch_fault}
 use Rattle.arrays.specs.Lent.{read_lent}
 use Rattle.arrays.specs.declared.lent.LentParts.{LentParts}
-use Rattle.layout.proofs.ChildLemmas.{MakesArray-plain, OneChild, only_child}
-use Rattle.layout.proofs.FirstFaultLemmas.{own_fault-none, reading-raw}
-use Rattle.layout.proofs.LawfulLemmas.{checked-reading, either_false, first-parts, no_dictionary, none_present, parts_agree, reading-again, text_alone}
-use Rattle.layout.specs.Checked.{checked, checked_texts, read_checked}
-use Rattle.layout.specs.Fault.{do_parts_differ, is_no_child, own_fault}
-use Rattle.layout.specs.declared.raw.RawArray.{RawArray, out-RawArray}
-use Rattle.layout.specs.Layout.{Buffers}
-use Rattle.layout.specs.Reading.{Reading, child_fault, dictionary_fault, inner_of, read_parts, reading}
-use Rattle.layout.specs.Seen.{Seen}
-use Rattle.types.specs.Kind as kind
-use Rattle.types.specs.Kind.{Kind, depth, int32, kind_of, kind_step}
-use Rattle.types.specs.Shape as shape
-use Rattle.types.specs.Shape.{FieldShape, Shape, field, field_of, field_step, fields_of, is_nullable, kind_of_field, name_of, shape_of, shape_step}
-use Rattle.types.specs.declared.data_type.DataType.{DataType, fold_out-DataType, map-DataType}
-use Rattle.types.specs.declared.data_type.DataType.TheVariants as variant
-use Rattle.types.specs.declared.data_type.DataType.TheVariants.{Dict, Int, LargeList', LargeUtf8, List', Utf8, outs-Dict, outs-LargeList', outs-List'}
-use Rattle.types.specs.declared.int_type.IntType.{IntType}
-use Rattle.types.specs.declared.data_type.DataType.TheViews as types
-use Rattle.types.proofs.ShapeLemmas.{kind_of-Bool, kind_of-Int, kind_of-LargeUtf8, kind_of-Utf8, kind_of_field-field_of}
-use Rattle.types.specs.declared.data_type.Field.{Field, fold-Field, fold_out-Field, out-Field}
-use Rattle.types.specs.declared.offset_width.OffsetWidth.{OffsetWidth}
-use Rattle.types.specs.declared.offset_width.OffsetWidth.TheVariants.{Narrow, Wide}
+use Rattle.arrays.proofs.ChildLemmas.{MakesArray-plain, OneChild, only_child}
+use Rattle.arrays.proofs.FirstFaultLemmas.{own_fault-none, reading-raw}
+use Rattle.arrays.proofs.LawfulLemmas.{checked-reading, either_false, first-parts, no_dictionary, none_present, parts_agree, reading-again, text_alone}
+use Rattle.arrays.specs.Checked.{checked, checked_texts, read_checked}
+use Rattle.arrays.specs.Fault.{do_parts_differ, is_no_child, own_fault}
+use Rattle.arrays.specs.RawArray.{RawArray, out-RawArray}
+use Rattle.arrays.specs.Layout.{Buffers}
+use Rattle.arrays.specs.Reading.{Reading, child_fault, dictionary_fault, inner_of, read_parts, reading}
+use Rattle.arrays.specs.Seen.{Seen}
+use Rattle.arrays.specs.Kind as kind
+use Rattle.arrays.specs.Kind.{Kind, depth, int32, kind_of, kind_step}
+use Rattle.arrays.specs.Shape as shape
+use Rattle.arrays.specs.Shape.{FieldShape, Shape, field, field_of, field_step, fields_of, is_nullable, kind_of_field, name_of, shape_of, shape_step}
+use Rattle.arrays.specs.DataType.{DataType, fold_out-DataType, map-DataType}
+use Rattle.arrays.specs.DataTypes as variant
+use Rattle.arrays.specs.DataTypes.{Dict, Int, LargeList', LargeUtf8, List', Utf8, outs-Dict, outs-LargeList', outs-List'}
+use Rattle.arrays.specs.IntType.{IntType}
+use Rattle.arrays.specs.DataTypeViews as types
+use Rattle.arrays.proofs.ShapeLemmas.{kind_of-Bool, kind_of-Int, kind_of-LargeUtf8, kind_of-Utf8, kind_of_field-field_of}
+use Rattle.arrays.specs.Field.{Field, fold-Field, fold_out-Field, out-Field}
+use Rattle.arrays.specs.OffsetWidth.{OffsetWidth}
+use Rattle.arrays.specs.OffsetWidths.{Narrow, Wide}
 use Rattle.flat.specs.Fields.{Begins, field_named, is_dictionary, shape_alone}
 use Rattle.flat.specs.Content.{content_of}
 use Rattle.flat.specs.Lent.{ArePushed, IsNodeOver, IsOver, IsTextPushed, Lends, LendsColumn, LendsColumns, content_of_kind}

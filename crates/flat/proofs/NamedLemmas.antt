@@ -6,15 +6,15 @@ use Rattle.std.proofs.lemmas.Map.Keys.{any_passes_from_place}
 use Rattle.std.proofs.lemmas.Option.{get_or_from_slice_get, slice_get_within}
 use Rattle.std.specs.Option.{option_or}
 use Rattle.arrays.proofs.BatchLemmas.{among-missing}
-use Rattle.layout.specs.Layout.{Buffers}
-use Rattle.types.specs.Kind as kind
-use Rattle.types.specs.Kind.{Kind, depth}
-use Rattle.types.specs.Schema.{holds_dict, is_deep, schema_fault}
-use Rattle.types.specs.Shape as shape
-use Rattle.types.specs.declared.data_type.Field.{Field}
-use Rattle.types.specs.Shape.{FieldShape, Shape, field, field_of, fields_of, is_nullable, kind_of_field, name_of}
-use Rattle.types.specs.declared.offset_width.OffsetWidth.{OffsetWidth}
-use Rattle.types.specs.declared.schema.SchemaFault.TheVariants.{DictInList, TooDeep}
+use Rattle.arrays.specs.Layout.{Buffers}
+use Rattle.arrays.specs.Kind as kind
+use Rattle.arrays.specs.Kind.{Kind, depth}
+use Rattle.arrays.specs.Schema.{holds_dict, is_deep, schema_fault}
+use Rattle.arrays.specs.Shape as shape
+use Rattle.arrays.specs.Field.{Field}
+use Rattle.arrays.specs.Shape.{FieldShape, Shape, field, field_of, fields_of, is_nullable, kind_of_field, name_of}
+use Rattle.arrays.specs.OffsetWidth.{OffsetWidth}
+use Rattle.arrays.specs.SchemaFaults.{DictInList, TooDeep}
 use Rattle.flat.specs.Named.{AreNamed, AreTextsNamed}
 use Rattle.flat.specs.Schema.{Names, most_levels}
 use Rattle.flat.specs.declared.node.Node.{Node}

@@ -2,8 +2,8 @@
 use Rattle.std.proofs.Common.{◌≡◌, ◌∙◌, ◌+◌, ◌-◌, ◌<◌, ◌≤◌, ◌++◌, ℕ, List, [], ◌∷◌, ap, arith, drop, inr, length, refl, subst, sym, take}
 use Rattle.std.proofs.lemmas.List.{drop-drop, length-drop}
 use Rattle.std.proofs.Math.Seq.{take-length}
-use Rattle.layout.specs.Seen.{Seen}
-use Rattle.types.specs.Shape.{FieldShape}
+use Rattle.arrays.specs.Seen.{Seen}
+use Rattle.arrays.specs.Shape.{FieldShape}
 use Rattle.flat.specs.Fields.{Begins, Stops}
 use Rattle.flat.specs.Schema.{Names, StopsFields, most_levels}
 use Rattle.flat.specs.Batch.{IsColumn, StopsArray, StopsColumn, StopsColumns, Takes}

@@ -3,12 +3,12 @@ use Rattle.std.proofs.Common.{◌≡◌, ◌∙◌, ℕ, zero, suc, List, [], �
 use Rattle.std.specs.Prelude.{unwrap_or}
 use Rattle.std.specs.Option.{option_and_then}
 use Rattle.arrays.specs.Batch.{Batch}
-use Rattle.layout.specs.Seen.{Seen}
-use Rattle.types.specs.declared.int_type.IntType.{IntType}
-use Rattle.types.specs.declared.offset_width.OffsetWidth.{OffsetWidth}
-use Rattle.types.specs.declared.offset_width.OffsetWidth.TheVariants.{Narrow}
-use Rattle.types.specs.Shape as shape
-use Rattle.types.specs.Shape.{Shape, FieldShape, kind_of_field}
+use Rattle.arrays.specs.Seen.{Seen}
+use Rattle.arrays.specs.IntType.{IntType}
+use Rattle.arrays.specs.OffsetWidth.{OffsetWidth}
+use Rattle.arrays.specs.OffsetWidths.{Narrow}
+use Rattle.arrays.specs.Shape as shape
+use Rattle.arrays.specs.Shape.{Shape, FieldShape, kind_of_field}
 use Rattle.flat.specs.Batch.{IsBatchOf, IsColumn, Takes}
 use Rattle.flat.specs.Content.{content_of}
 use Rattle.flat.specs.Fields.{Begins, field_named, shape_alone}

@@ -1,12 +1,12 @@
 -- Nodes over the parts of arrays, which are lent.
 use Rattle.std.specs.Prelude.{◌≡◌, ◌<◌, ◌==◌, ℕ, List, [], ◌∷◌, ◌++◌, Bool, not, Option, Some, None}
-use Rattle.layout.specs.Checked.{checked_texts}
-use Rattle.layout.specs.Layout.{Buffers, bytes_at}
-use Rattle.layout.specs.Reading.{Reading, read_parts}
-use Rattle.layout.specs.Seen.{Seen}
-use Rattle.types.specs.Kind as kind
-use Rattle.types.specs.Kind.{Kind, depth, int32}
-use Rattle.types.specs.Shape.{FieldShape, kind_of_field}
+use Rattle.arrays.specs.Checked.{checked_texts}
+use Rattle.arrays.specs.Layout.{Buffers, bytes_at}
+use Rattle.arrays.specs.Reading.{Reading, read_parts}
+use Rattle.arrays.specs.Seen.{Seen}
+use Rattle.arrays.specs.Kind as kind
+use Rattle.arrays.specs.Kind.{Kind, depth, int32}
+use Rattle.arrays.specs.Shape.{FieldShape, kind_of_field}
 use Rattle.flat.specs.Fields.{Begins}
 use Rattle.flat.specs.Parts.{stated}
 use Rattle.flat.specs.Content.{content_of}

@@ -1,8 +1,8 @@
 -- The schema that nodes name.
 use Rattle.std.specs.Prelude.{◌≡◌, ℕ, List, [], ◌∷◌, length, Some}
-use Rattle.types.specs.Schema.{schema_fault}
-use Rattle.types.specs.Shape.{FieldShape}
-use Rattle.types.specs.declared.schema.SchemaFault.{SchemaFault}
+use Rattle.arrays.specs.Schema.{schema_fault}
+use Rattle.arrays.specs.Shape.{FieldShape}
+use Rattle.arrays.specs.SchemaFault.{SchemaFault}
 use Rattle.flat.specs.Fields.{Begins, Stops}
 use Rattle.flat.specs.declared.fault.FlatFault.{FlatFault}
 use Rattle.flat.specs.declared.fault.FlatFault.TheVariants.{Schema}

@@ -1,13 +1,12 @@
 //! Indices of a dictionary as codes of 32 bits, which arrays have.
 
 ghost use Rattle.std.specs.Prelude.{◌≡◌, ◌+◌, ◌*◌, ◌≤◌, IfOk, length};
-ghost use Rattle.types.specs.Kind.{bytes_of, int32};
-ghost use Rattle.types.specs.Number.{IsOfType, number_at};
+ghost use Rattle.arrays.specs.Kind.{bytes_of, int32};
+ghost use Rattle.arrays.specs.Number.{IsOfType, number_at};
 ghost use Rattle.flat.specs.Parts.{code, code_bytes};
 
-use colbits::{Buffer, NoMemory};
+use arrays::{Buffer, INT32, IntType, Integer, NoMemory, push_number, with_integer};
 use std::alloc::Global;
-use types::{INT32, IntType, Integer, push_number, with_integer};
 
 /// The codes of all indices of the type that lie in bytes.
 pub(crate) fn codes(alloc: Global, ty: IntType, bytes: &[u8]) -> Result<Buffer, NoMemory>

@@ -4,7 +4,7 @@ ghost use Rattle.std.specs.Prelude.{◌≡◌, ◌==◌};
 ghost use Rattle.flat.specs.Format.{format_content, letter_content, list_content};
 ghost use Rattle.flat.specs.Content.{child_count, content_with};
 
-use types::{IntType, OffsetWidth, Width};
+use arrays::{IntType, OffsetWidth, Width};
 
 /// What a node holds: values, or what the nodes behind it are for.
 #[derive(Clone, Copy, Debug, PartialEq, Eq)]

@@ -1,5 +1,4 @@
-use arrays::{BatchFault, LayoutFault, SchemaFault};
-use colbits::NoMemory;
+use arrays::{BatchFault, LayoutFault, NoMemory, SchemaFault};
 use std::alloc::{AllocError, AllocFailed};
 use thiserror::Error;
 

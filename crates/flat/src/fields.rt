@@ -1,17 +1,17 @@
 //! The fields that nodes name.
 
 ghost use Rattle.std.specs.Prelude.{◌≡◌, ◌⊎◌, ◌==◌, ◌≤◌, IfErr, IfOk, None, Some, drop, length, not, string_bytes};
-ghost use Rattle.types.specs.First.{first};
-ghost use Rattle.types.specs.Shape as shape;
-ghost use Rattle.types.specs.Shape.{field_of, shape_of};
+ghost use Rattle.arrays.specs.First.{first};
+ghost use Rattle.arrays.specs.Shape as shape;
+ghost use Rattle.arrays.specs.Shape.{field_of, shape_of};
 ghost use Rattle.flat.specs.Content.{content_faults, content_of, node_fault};
 ghost use Rattle.flat.specs.Fields.{Begins, Stops, dictionary_fault, field_named, is_dictionary};
 
 use crate::content::Content;
 use crate::fault::FlatFault;
 use crate::node::Node;
+use arrays::{DataType, Field, OffsetWidth};
 use std::alloc::Global;
-use types::{DataType, Field, OffsetWidth};
 
 /// The name and the content of a node.
 #[derive(Drop)]

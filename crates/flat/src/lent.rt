@@ -6,18 +6,18 @@ ghost use Rattle.arrays.specs.Lent.{read_lent};
 ghost use Rattle.flat.specs.Content.{child_count};
 ghost use Rattle.flat.specs.Format.{format_content};
 ghost use Rattle.flat.specs.Lent.{ArePushed, IsNodeOver, IsTextPushed, LendsColumns, content_of_kind, dictionary_of_kind, format_of_kind};
-ghost use Rattle.layout.specs.Checked.{read_checked};
-ghost use Rattle.layout.specs.Layout.{bytes_at};
-ghost use Rattle.layout.specs.declared.raw.RawArray.{out-RawArray};
-ghost use Rattle.types.specs.Kind.{Kind, int, kind_of};
-ghost use Rattle.types.specs.Shape.{field_of, is_nullable, kind_of_field, name_of};
+ghost use Rattle.arrays.specs.Checked.{read_checked};
+ghost use Rattle.arrays.specs.Layout.{bytes_at};
+ghost use Rattle.arrays.specs.RawArray.{out-RawArray};
+ghost use Rattle.arrays.specs.Kind.{Kind, int, kind_of};
+ghost use Rattle.arrays.specs.Shape.{field_of, is_nullable, kind_of_field, name_of};
 
 use crate::node::Node;
-use arrays::{Array, LentParts, RecordBatch, Words};
-use colbits::{Buffer, NoMemory};
-use layout::RawArray;
+use arrays::{
+    Array, Buffer, DataType, Field, IntType, LentParts, NoMemory, RawArray, RecordBatch, Width,
+    Words,
+};
 use std::alloc::Global;
-use types::{DataType, Field, IntType, Width};
 
 /// The columns of a batch as nodes, one after the other, over the very buffers of its arrays: nothing is copied. That of a
 /// dictionary has no name.

@@ -3,13 +3,12 @@
 ghost use Rattle.std.specs.Prelude.{IfOk, OnOk, []};
 ghost use Rattle.flat.specs.Named.{AreNamed, AreTextsNamed};
 ghost use Rattle.flat.specs.Schema.{Names};
-ghost use Rattle.types.specs.Shape.{field_of};
+ghost use Rattle.arrays.specs.Shape.{field_of};
 
 use crate::lent::{node_of, node_over};
 use crate::node::Node;
-use colbits::NoMemory;
+use arrays::{DataType, Field, NoMemory, Schema};
 use std::alloc::Global;
-use types::{DataType, Field, Schema};
 
 /// The columns of a schema as nodes without buffers, one after the other, whose lengths are 0. What they name is the schema
 /// ([`schema_of`](crate::schema_of)); that of a dictionary has no name.

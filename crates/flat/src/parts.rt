@@ -1,18 +1,16 @@
 //! The parts of nodes as arrays, copied.
 
 ghost use Rattle.std.specs.Prelude.{◌≡◌, IfOk, map, option_map};
-ghost use Rattle.layout.specs.Reading.{read_parts, reading};
-ghost use Rattle.types.specs.Kind.{kind_of};
+ghost use Rattle.arrays.specs.Reading.{read_parts, reading};
+ghost use Rattle.arrays.specs.Kind.{kind_of};
 ghost use Rattle.flat.specs.Content.{content_of};
 ghost use Rattle.flat.specs.Parts.{buffers_given, codes_of, read_codes, read_column, read_dictionary, read_node, stated, validity_given};
 
 use crate::codes::codes;
 use crate::content::Content;
 use crate::node::Node;
-use colbits::{Buffer, NoMemory};
-use layout::RawArray;
+use arrays::{Buffer, DataType, NoMemory, RawArray};
 use std::alloc::Global;
-use types::DataType;
 
 /// The parts of a node as a column of the type, with those of the nodes behind it that lie in the column.
 pub(crate) fn raw_column(

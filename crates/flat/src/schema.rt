@@ -1,14 +1,14 @@
 //! The schema that nodes name.
 
 ghost use Rattle.std.specs.Prelude.{◌≡◌, ◌⊎◌, [], IfErr, IfOk};
-ghost use Rattle.types.specs.Shape.{fields_of};
+ghost use Rattle.arrays.specs.Shape.{fields_of};
 ghost use Rattle.flat.specs.Schema.{Names, StopsFields, StopsSchema};
 
 use crate::fault::FlatFault;
 use crate::fields::first_field;
 use crate::node::Node;
+use arrays::{Field, Schema};
 use std::alloc::Global;
-use types::{Field, Schema};
 
 /// How many nodes may lie in one another: 8 lists, and what they are of.
 pub(crate) const MOST_LEVELS: u32 = 9;

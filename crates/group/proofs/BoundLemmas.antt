@@ -15,7 +15,7 @@ use Rattle.arrays.specs.Kind.{Kind}
 use Rattle.arrays.specs.Order.{order}
 use Rattle.group.specs.Bounds.{IsGreatestOf, IsLeastOf}
 use Rattle.group.specs.Stats.{greater, greatest_of, least_of, lesser, number_of, ordered}
-use Rattle.group.proofs.JoinLemmas.{are_bytes, are_numbers, are_truths, bytes_of_text, cond-item, pick, picks-first, picks-second, reduce-items, truth_of}
+use Rattle.group.proofs.JoinedStats.{are_bytes, are_numbers, are_truths, bytes_of_text, cond-item, pick, picks-first, picks-second, reduce-items, truth_of}
 use Rattle.group.proofs.TallyLemmas.{no_greatest_of_lists, no_least_of_lists}
 
 -- ---- a list's first by a total order

@@ -4,7 +4,7 @@ use Rattle.std.specs.List.{AllZip, zip}
 use Rattle.std.proofs.lemmas.List.{take_more}
 use Rattle.std.proofs.lemmas.Slice.Zip.{get_or-zip, length-zip}
 use Rattle.group.specs.declared.stats.ColumnStats.{ColumnStats}
-use Rattle.group.specs.Columns.{AreJoined, Joins}
+use Rattle.group.specs.StatsOfColumns.{AreJoined, Joins}
 
 pub all_zip-push : {A B : Type 0} (R : A → B → Type 0) (xs : List A) (ys : List B) (x : A) (y : B) → AllZip R xs ys → R x y → AllZip R (xs ++ x ∷ []) (ys ++ y ∷ [])
 all_zip-push R [] [] x y all one = (one, tt)

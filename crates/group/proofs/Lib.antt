@@ -2,8 +2,8 @@
 pub mod TallyLemmas
 pub mod NullLemmas
 pub mod SumLemmas
-pub mod JoinLemmas
+pub mod JoinedStats
 pub mod NumberLemmas
 pub mod BoundLemmas
-pub mod SendingLemmas
+pub mod StatsSending
 pub mod ColumnsLemmas

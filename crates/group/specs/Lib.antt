@@ -5,5 +5,5 @@ pub mod Tally
 pub mod Summary
 pub mod Joined
 pub mod Bounds
-pub mod Columns
+pub mod StatsOfColumns
 pub mod Scalars

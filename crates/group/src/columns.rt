@@ -2,13 +2,12 @@
 
 ghost use Rattle.std.specs.Prelude.{◌≡◌, ◌+◌, ◌^◌, ◌≤◌, IfOk, length};
 ghost use Rattle.std.specs.List.{AllZip};
-ghost use Rattle.group.specs.Columns.{AreJoined, AreTheirs};
+ghost use Rattle.group.specs.StatsOfColumns.{AreJoined, AreTheirs};
 
 use crate::join::joined;
 use crate::slots::stats_of;
 use crate::stats::ColumnStats;
-use arrays::Array;
-use colbits::NoMemory;
+use arrays::{Array, NoMemory};
 use std::alloc::Global;
 
 /// The statistics of each column.

@@ -5,7 +5,7 @@ ghost use Rattle.group.specs.Summary.{AreSame, scalar_item};
 
 use crate::scalar_ref::ScalarRef;
 use crate::stats::{ColumnStats, Scalar};
-use colbits::NoMemory;
+use arrays::NoMemory;
 use std::alloc::Global;
 
 impl ColumnStats {

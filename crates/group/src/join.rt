@@ -12,7 +12,7 @@ ghost use Rattle.group.specs.Summary.{AreStats, scalar_item};
 
 use crate::copy::copied;
 use crate::stats::{ColumnStats, Scalar};
-use colbits::NoMemory;
+use arrays::NoMemory;
 use std::alloc::Global;
 
 /// The statistics of a column of the slots of one column and then those of another of the same kind: so those of a

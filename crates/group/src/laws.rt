@@ -4,7 +4,7 @@ ghost use Rattle.std.specs.Prelude.{◌≡◌, ◌↔◌, ℤ, List, [], None, I
 ghost use Rattle.arrays.specs.Item.{Item, int};
 ghost use Rattle.arrays.specs.Kind as kind;
 ghost use Rattle.arrays.specs.Kind.{Kind};
-ghost use Rattle.types.specs.declared.int_type.IntType.{IntType};
+ghost use Rattle.arrays.specs.IntType.{IntType};
 ghost use Rattle.group.specs.Bounds.{IsGreatestOf, IsLeastOf};
 ghost use Rattle.group.specs.Numbers.{IsGreatest, IsLeast, greatest_number, least_number};
 ghost use Rattle.group.specs.Stats.{greatest_of, least_of, ordered};

@@ -7,8 +7,7 @@ ghost use Rattle.group.specs.Scalars.{item_if_any, item_of_ref, item_of_scalar};
 ghost use Rattle.group.specs.Summary.{scalar_item};
 
 use crate::stats::Scalar;
-use arrays::{View, ViewType};
-use colbits::NoMemory;
+use arrays::{NoMemory, View, ViewType};
 use std::alloc::Global;
 
 /// An item of a column that isn't one of lists, or of a `Scalar`, which it borrows.

@@ -10,10 +10,8 @@ use crate::number::Number;
 use crate::stats::{ColumnStats, Scalar};
 use crate::tally::{Tally, greater, lesser};
 use arrays::validity::is_valid;
-use arrays::{IntType, Integer, View, ViewType};
-use colbits::NoMemory;
+use arrays::{IntType, Integer, NoMemory, View, ViewType, with_integer};
 use std::alloc::Global;
-use types::with_integer;
 
 /// The statistics of a column.
 ///

@@ -5,8 +5,7 @@ ghost use Rattle.arrays.specs.Shape.{field_of};
 ghost use Rattle.intake.specs.Filling.{IsAppended, IsEmptyOf, IsOneColumn, IsWidened, StopsAppend, StopsNaming, StopsWidening};
 
 use crate::fault::IntakeFault;
-use arrays::Field;
-use colbits::NoMemory;
+use arrays::{Field, NoMemory};
 use flat::{FlatFault, Node, batch_of, schema_of};
 use std::alloc::Global;
 use table::TableState;

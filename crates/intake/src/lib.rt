@@ -9,3 +9,5 @@ pub mod filling;
 
 pub use fault::IntakeFault;
 pub use filling::{add_column, append, table_of};
+pub use flat::{FlatFault, Node, batch_of, fields_of, nodes_of, schema_of};
+pub use table::{AddFault, Refusal, TableState};

@@ -6,12 +6,12 @@ use Rattle.std.specs.List.{list_all}
 use Rattle.std.specs.Char.{is_ascii_digit, digit_value}
 use Rattle.std.specs.Str.Parse.{digits_value, digits_value_after}
 use Rattle.json_base.specs.JsonNumber.{numeral, below, is_numeral, fitting, narrow}
-use Rattle.types.specs.declared.int_type.IntType.{IntType}
+use Rattle.arrays.specs.IntType.{IntType}
 use Rattle.arrays.specs.Number.{is_of_type}
-use Rattle.types.specs.declared.int_type.Width.{Width}
-use Rattle.types.specs.declared.int_type.Width.TheVariants.{W8, W16, W32, W64}
+use Rattle.arrays.specs.Width.{Width}
+use Rattle.arrays.specs.Widths.{W8, W16, W32, W64}
 use Rattle.std.proofs.lemmas.Int.{ints}
-use Rattle.types.proofs.RangeLemmas.{IsOfType-from_test}
+use Rattle.arrays.proofs.RangeLemmas.{IsOfType-from_test}
 
 -- more digits make no number smaller
 pub digits_value_after-le : (n : ℕ) (ds : List ℕ) → n ≤ digits_value_after 10 n ds

@@ -12,7 +12,7 @@ use Rattle.json_base.specs.declared.path.Step.TheVariants as step
 use Rattle.json_base.specs.declared.fault.JsonFault.{JsonFault}
 use Rattle.json_base.specs.declared.fault.JsonFaultKind.{JsonFaultKind}
 use Rattle.json_base.specs.declared.fault.JsonFaultKind.TheVariants.{NotJson, MissingMember, WrongMember}
-use Rattle.json_base.specs.JsonFault.{no_memory, IsFault, IsUnder, Tells, stands, wants}
+use Rattle.json_base.specs.FaultAt.{no_memory, IsFault, IsUnder, Tells, stands, wants}
 use Rattle.json_base.specs.JsonMember.{NoDocument, no_document, member_of, IsObject, Unlike, unlike, Missing, missing, MemberFault, absent, wrong, EachFault, item}
 
 -- a fault made at a place stands if that kind stands there

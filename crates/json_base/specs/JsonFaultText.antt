@@ -1,8 +1,8 @@
 -- How a fault is reported.
 use Rattle.std.specs.Prelude.{ℕ, List, [], ◌∷◌, ◌++◌, codes, Option, Some, None}
 use Rattle.std.specs.Fmt.{decimal}
-use Rattle.layout.specs.declared.fault.LayoutFault.{LayoutFault}
-use Rattle.layout.specs.declared.fault.LayoutFault.TheVariants as layout
+use Rattle.arrays.specs.LayoutFault.{LayoutFault}
+use Rattle.arrays.specs.LayoutFaults as layout
 use Rattle.json_base.specs.JsonPath.{pointer}
 use Rattle.json_base.specs.declared.path.Step.{Step}
 use Rattle.json_base.specs.declared.fault.JsonFaultKind.{JsonFaultKind}

@@ -1,6 +1,13 @@
 -- The words of this crate's contracts.
+pub use Rattle.serde_json.specs.Data
+pub use Rattle.serde_json.specs.Events
+pub use Rattle.serde_json.specs.Find
+pub use Rattle.serde_json.specs.Read
+pub use Rattle.serde_json.specs.View
+pub use Rattle.serde_json.specs.Written
+pub use Rattle.serde_json.specs.declared.value.Value
 pub mod JsonPath
-pub mod JsonFault
+pub mod FaultAt
 pub mod JsonFaultText
 pub mod JsonMember
 pub mod JsonNumber

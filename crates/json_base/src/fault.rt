@@ -2,8 +2,7 @@ ghost use Rattle.std.specs.Prelude.{◌≡◌, IfOk, string_bytes};
 ghost use Rattle.json_base.specs.JsonFaultText.{kind_name, kind_text, fault_text, layout_name, row_of};
 
 use crate::path::{Path, Step, push_pointer};
-use arrays::LayoutFault;
-use colbits::NoMemory;
+use arrays::{LayoutFault, NoMemory};
 use std::alloc::Global;
 use std::error::Error;
 use std::fmt;
@@ -130,7 +129,7 @@ pub struct JsonFault {
 }
 
 impl JsonFault {
-    ghost use Rattle.json_base.specs.JsonFault.{IsFault, no_memory, IsUnder};
+    ghost use Rattle.json_base.specs.FaultAt.{IsFault, no_memory, IsUnder};
 
     /// Want of memory.
     pub fn no_memory(alloc: Global) -> JsonFault

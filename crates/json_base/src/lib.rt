@@ -10,3 +10,4 @@ pub mod path;
 
 pub use fault::{JsonFault, JsonFaultKind, fault_text};
 pub use path::{Member, Path, Step};
+pub use serde_json::Value;

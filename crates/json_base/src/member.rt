@@ -1,7 +1,7 @@
 ghost use Rattle.std.specs.Prelude.{◌≡◌, ◌<◌, ◌^◌, Some, IfOk, IfErr, OnOk, ◌∷◌, ◌++◌, [], option_and_then, string_bytes};
 ghost use Rattle.serde_json.specs.Find.{as_array, as_bool, as_number, as_object, as_str};
 ghost use Rattle.serde_json.specs.View.{view, items_view, number_view};
-ghost use Rattle.json_base.specs.JsonFault.{Tells, IsFault, no_memory};
+ghost use Rattle.json_base.specs.FaultAt.{Tells, IsFault, no_memory};
 ghost use Rattle.json_base.specs.declared.path.Step.TheVariants as step;
 ghost use Rattle.json_base.specs.declared.fault.JsonFaultKind.TheVariants.{WrongMember};
 ghost use Rattle.json_base.specs.JsonMember.{member_of, IsObject, Unlike, MemberFault, Missing};

@@ -1,7 +1,7 @@
 ghost use Rattle.std.specs.Prelude.{◌≡◌, ◌∷◌, ◌++◌, [], IfOk, OnOk, string_bytes};
 ghost use Rattle.json_base.specs.JsonPath.{member_name, step_text, pointer};
 
-use colbits::NoMemory;
+use arrays::NoMemory;
 use std::alloc::{AllocError, Global};
 use std::marker::Model;
 

@@ -4,11 +4,11 @@ use Rattle.std.proofs.lemmas.List.{map-append}
 use Rattle.std.proofs.lemmas.Option.{slice_get_within}
 use Rattle.arrays.specs.Batch.{Batch}
 use Rattle.arrays.specs.Shape.{FieldShape}
-use Rattle.serde_json.specs.Data.{Data, no_items}
-use Rattle.serde_json.specs.Find.{get_item}
-use Rattle.json_base.specs.JsonMember.{ReadsFirst}
-use Rattle.json_base.specs.JsonTable.{Table, table_of}
-use Rattle.json_base.proofs.JsonItems.{first_pushed, slice_get-front, slice_get-last}
+use Rattle.json_read.specs.Data.{Data, no_items}
+use Rattle.json_read.specs.Find.{get_item}
+use Rattle.json_read.specs.JsonMember.{ReadsFirst}
+use Rattle.json_read.specs.JsonTable.{Table, table_of}
+use Rattle.json_read.proofs.JsonItems.{first_pushed, slice_get-front, slice_get-last}
 use Rattle.json_read.specs.JsonBatch.{ReadsBatch}
 use Rattle.json_read.specs.JsonCatalog.{Coding}
 use Rattle.json_read.proofs.JsonFiles.{AreUnder-push}

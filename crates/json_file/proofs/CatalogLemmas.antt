@@ -6,10 +6,10 @@ use Rattle.std.specs.declared.sync.Arc.{Arc}
 use Rattle.std.proofs.lemmas.List.{length-map}
 use Rattle.std.proofs.lemmas.Option.{slice_get-map, slice_get_read}
 use Rattle.arrays.specs.Seen.{Seen}
-use Rattle.serde_json.specs.Data.{Data, array, no_items}
-use Rattle.serde_json.specs.Find.{as_array}
-use Rattle.json_base.specs.JsonMember.{ReadsEach}
-use Rattle.json_base.proofs.JsonItems.{get_item_some}
+use Rattle.json_read.specs.Data.{Data, array, no_items}
+use Rattle.json_read.specs.Find.{as_array}
+use Rattle.json_read.specs.JsonMember.{ReadsEach}
+use Rattle.json_read.proofs.JsonItems.{get_item_some}
 use Rattle.json_read.specs.CatalogParts.{AreCodings, HasSome, IsCoding, AreWordsOf}
 use Rattle.json_read.specs.EncodingParts.{parts_of}
 use Rattle.json_read.specs.JsonCatalog.{Coding, HasDictionary, HasId, StandsOnce}

@@ -2,10 +2,10 @@
 use Rattle.std.proofs.Common.{◌≡◌, ◌≢◌, ◌∙◌, ℕ, ℤ, List, [], ◌∷◌, ◌++◌, Option, Some, None, option_and_then, Global, refl, sym, ap, subst}
 use Rattle.std.specs.declared.sync.Arc.{Arc}
 use Rattle.arrays.specs.Seen.{Seen}
-use Rattle.serde_json.specs.Data.{Data, object, Members, put}
-use Rattle.serde_json.specs.Find.{get_member}
-use Rattle.json_base.specs.JsonPath.{member_name}
-use Rattle.json_base.specs.declared.path.Member.TheVariants as member
+use Rattle.json_read.specs.Data.{Data, object, Members, put}
+use Rattle.json_read.specs.Find.{get_member}
+use Rattle.json_read.specs.JsonPath.{member_name}
+use Rattle.json_read.specs.Members as member
 use Rattle.json_read.specs.CatalogParts.{AreWordsOf}
 use Rattle.json_read.specs.JsonEncoding.{id_of}
 use Rattle.json_stream.proofs.ColumnLemmas.{here, there, no_member}

@@ -3,13 +3,13 @@ use Rattle.std.proofs.Common.{◌≡◌, ◌≢◌, ◌∙◌, ℕ, List, false,
 use Rattle.arrays.specs.Batch.{Batch}
 use Rattle.arrays.specs.File.{File}
 use Rattle.arrays.specs.Shape.{FieldShape}
-use Rattle.json.specs.Lex.{lex, between, begins_colon}
-use Rattle.serde_json.specs.Data.{Data, array, no_items, object, Members, put}
-use Rattle.serde_json.specs.Find.{get_member, as_array}
-use Rattle.json_base.specs.JsonMember.{member_of, ReadsFirst}
-use Rattle.json_base.specs.JsonTable.{table_of}
-use Rattle.json_base.specs.JsonPath.{member_name}
-use Rattle.json_base.specs.declared.path.Member.TheVariants as member
+use Rattle.json_scan.specs.Lex.{lex, between, begins_colon}
+use Rattle.json_read.specs.Data.{Data, array, no_items, object, Members, put}
+use Rattle.json_read.specs.Find.{get_member, as_array}
+use Rattle.json_read.specs.JsonMember.{member_of, ReadsFirst}
+use Rattle.json_read.specs.JsonTable.{table_of}
+use Rattle.json_read.specs.JsonPath.{member_name}
+use Rattle.json_read.specs.Members as member
 use Rattle.json_read.specs.JsonBatch.{ReadsBatch}
 use Rattle.json_read.specs.JsonCatalog.{Coding, HasCatalog, HasCoding}
 use Rattle.json_read.specs.JsonFile.{HasSchema, ReadsFile, file_of}

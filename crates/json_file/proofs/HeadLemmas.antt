@@ -1,11 +1,11 @@
 -- What is said before the batches, put together of its two members.
 use Rattle.std.proofs.Common.{◌≡◌, ◌∙◌, ℕ, List, length, Option, Some, None, option_and_then, refl, sym, ap, subst}
 use Rattle.arrays.specs.Shape.{FieldShape}
-use Rattle.serde_json.specs.Data.{Data, object, no_members, put}
-use Rattle.serde_json.specs.Find.{as_array}
-use Rattle.json_base.specs.JsonMember.{member_of}
-use Rattle.json_base.specs.JsonPath.{member_name}
-use Rattle.json_base.specs.declared.path.Member.TheVariants as member
+use Rattle.json_read.specs.Data.{Data, object, no_members, put}
+use Rattle.json_read.specs.Find.{as_array}
+use Rattle.json_read.specs.JsonMember.{member_of}
+use Rattle.json_read.specs.JsonPath.{member_name}
+use Rattle.json_read.specs.Members as member
 use Rattle.json_read.specs.EncodingParts.{AreEncoded}
 use Rattle.json_read.specs.JsonCatalog.{Coding, HasCatalog}
 use Rattle.json_read.specs.JsonEncoding.{Encoding}

@@ -1,15 +1,15 @@
 -- The members of a dictionary's batch one after another, and the texts that it holds.
 use Rattle.std.proofs.Common.{◌≡◌, ◌≢◌, ◌∙◌, ℕ, List, [], ◌∷◌, ◌++◌, length, Option, Some, None, option_and_then, refl, sym, ap, subst, arith}
 use Rattle.std.specs.List.{slice_get}
-use Rattle.types.specs.declared.offset_width.OffsetWidth.TheVariants.{Narrow}
+use Rattle.arrays.specs.OffsetWidths.{Narrow}
 use Rattle.arrays.specs.Kind.{utf8}
 use Rattle.arrays.specs.Seen.{Seen}
 use Rattle.arrays.specs.Shape.{FieldShape, kind_of_field}
-use Rattle.serde_json.specs.Data.{Data, object, array, no_items, Members, put}
-use Rattle.serde_json.specs.Find.{get_member, as_array}
-use Rattle.json_base.specs.JsonNumber.{count_of}
-use Rattle.json_base.specs.JsonPath.{member_name}
-use Rattle.json_base.specs.declared.path.Member.TheVariants as member
+use Rattle.json_read.specs.Data.{Data, object, array, no_items, Members, put}
+use Rattle.json_read.specs.Find.{get_member, as_array}
+use Rattle.json_read.specs.JsonNumber.{count_of}
+use Rattle.json_read.specs.JsonPath.{member_name}
+use Rattle.json_read.specs.Members as member
 use Rattle.json_read.specs.JsonBatch.{HoldsColumn, HoldsTop}
 use Rattle.json_read.specs.JsonColumn.{ReadsPlain, texts}
 use Rattle.json_read.specs.JsonDictionary.{WrapsTexts, wrapped}

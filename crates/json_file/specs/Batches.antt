@@ -2,9 +2,9 @@
 use Rattle.std.specs.Prelude.{List, length, map, Option}
 use Rattle.arrays.specs.Batch.{Batch}
 use Rattle.arrays.specs.Shape.{FieldShape}
-use Rattle.serde_json.specs.Data.{Data, no_items}
-use Rattle.json_base.specs.JsonMember.{ReadsFirst}
-use Rattle.json_base.specs.JsonTable.{table_of}
+use Rattle.json_read.specs.Data.{Data, no_items}
+use Rattle.json_read.specs.JsonMember.{ReadsFirst}
+use Rattle.json_read.specs.JsonTable.{table_of}
 use Rattle.json_read.specs.JsonBatch.{ReadsBatch}
 use Rattle.json_read.specs.JsonCatalog.{Coding}
 use Rattle.json_read.specs.JsonFile.{AreUnder}

@@ -1,8 +1,8 @@
 -- How columns are encoded, by the dictionaries of a file. (Arrow integration testing, "JSON test data format", DictionaryBatch)
 use Rattle.std.specs.Prelude.{◌≡◌, ℤ, List, length, Option, Some, option_and_then}
-use Rattle.serde_json.specs.Data.{Data, Items}
-use Rattle.serde_json.specs.Find.{as_array}
-use Rattle.json_base.specs.JsonMember.{ReadsEach}
+use Rattle.json_read.specs.Data.{Data, Items}
+use Rattle.json_read.specs.Find.{as_array}
+use Rattle.json_read.specs.JsonMember.{ReadsEach}
 use Rattle.json_read.specs.CatalogParts.{AreCodings, HasSome}
 use Rattle.json_read.specs.JsonCatalog.{Coding, HasId}
 use Rattle.json_read.specs.JsonEncoding.{Encoding}

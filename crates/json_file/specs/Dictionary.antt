@@ -4,11 +4,11 @@ use Rattle.std.specs.Arc.{arc_value}
 use Rattle.std.specs.declared.alloc.Global.{Global}
 use Rattle.std.specs.declared.sync.Arc.{Arc}
 use Rattle.arrays.specs.Seen.{Seen}
-use Rattle.serde_json.specs.Data.{Data, Members, no_items}
-use Rattle.serde_json.specs.Find.{get_member}
-use Rattle.json_base.specs.JsonMember.{ReadsFirst}
-use Rattle.json_base.specs.JsonPath.{member_name}
-use Rattle.json_base.specs.declared.path.Member.TheVariants as member
+use Rattle.json_read.specs.Data.{Data, Members, no_items}
+use Rattle.json_read.specs.Find.{get_member}
+use Rattle.json_read.specs.JsonMember.{ReadsFirst}
+use Rattle.json_read.specs.JsonPath.{member_name}
+use Rattle.json_read.specs.Members as member
 use Rattle.json_read.specs.CatalogParts.{AreWordsOf}
 use Rattle.json_read.specs.JsonCatalog.{HasId}
 use Rattle.json_read.specs.JsonDictionary.{WrapsTexts}

@@ -1,12 +1,12 @@
 -- The members of a document, as far as they are read. (Arrow integration testing, "JSON test data format")
 use Rattle.std.specs.Prelude.{◌≡◌, ℕ, List, map, Option, Some, None, option_and_then}
 use Rattle.arrays.specs.File.{File}
-use Rattle.serde_json.specs.Data.{Data, Items, Members}
-use Rattle.serde_json.specs.Find.{get_member, as_array}
-use Rattle.json_base.specs.JsonMember.{member_of, ReadsEach}
-use Rattle.json_base.specs.JsonPath.{member_name}
-use Rattle.json_base.specs.JsonTable.{table_of}
-use Rattle.json_base.specs.declared.path.Member.TheVariants as member
+use Rattle.json_read.specs.Data.{Data, Items, Members}
+use Rattle.json_read.specs.Find.{get_member, as_array}
+use Rattle.json_read.specs.JsonMember.{member_of, ReadsEach}
+use Rattle.json_read.specs.JsonPath.{member_name}
+use Rattle.json_read.specs.JsonTable.{table_of}
+use Rattle.json_read.specs.Members as member
 use Rattle.json_read.specs.JsonBatch.{ReadsBatch}
 use Rattle.json_read.specs.JsonCatalog.{Coding, HasCatalog}
 use Rattle.json_read.specs.JsonFile.{AreUnder, HasSchema}

@@ -2,10 +2,10 @@
 use Rattle.std.specs.Prelude.{◌≡◌, List, [], ◌∷◌, length, Option, Some, None}
 use Rattle.arrays.specs.Kind.{utf8}
 use Rattle.arrays.specs.Seen.{Seen}
-use Rattle.serde_json.specs.Data.{Data, Members}
-use Rattle.serde_json.specs.Find.{get_member}
-use Rattle.json_base.specs.JsonPath.{member_name}
-use Rattle.json_base.specs.declared.path.Member.TheVariants as member
+use Rattle.json_read.specs.Data.{Data, Members}
+use Rattle.json_read.specs.Find.{get_member}
+use Rattle.json_read.specs.JsonPath.{member_name}
+use Rattle.json_read.specs.Members as member
 use Rattle.json_read.specs.JsonBatch.{HoldsColumn}
 use Rattle.json_read.specs.JsonDictionary.{ReadsTexts}
 use Rattle.json_stream.specs.Column.{IsCountMember}

@@ -2,15 +2,14 @@
 
 ghost use Rattle.std.specs.Prelude.{◌≡◌, ◌<◌, ◌≤◌, ◌∷◌, ◌++◌, List, [], length, drop, map, option_map, IfOk, OnOk};
 ghost use Rattle.std.specs.Arc.{arc_value};
-ghost use Rattle.serde_json.specs.Data.{Data, array, no_items};
-ghost use Rattle.json_base.specs.JsonTable.{table_of};
+ghost use Rattle.json_read.specs.Data.{Data, array, no_items};
+ghost use Rattle.json_read.specs.JsonTable.{table_of};
 ghost use Rattle.json_read.specs.CatalogParts.{coding_of};
 ghost use Rattle.json_read.specs.JsonBatch.{ReadsBatch};
 ghost use Rattle.json_scan.specs.Spelling.{SpellsAt, before};
 ghost use Rattle.json_file.specs.Batches.{AreBatches};
 
-use arrays::{RecordBatch, Schema};
-use colbits::NoMemory;
+use arrays::{NoMemory, RecordBatch, Schema};
 use json_read::Coding;
 use json_scan::{ItemVisitor, Miss, Placed, read_array};
 use json_stream::read_batch;

@@ -2,21 +2,19 @@
 
 ghost use Rattle.std.specs.Prelude.{◌≡◌, ◌<◌, ◌≤◌, ◌∷◌, ◌++◌, List, [], Some, length, drop, IfOk, IfSome, OnOk};
 ghost use Rattle.std.specs.Arc.{arc_value};
-ghost use Rattle.serde_json.specs.Data.{Data, array, no_items};
+ghost use Rattle.json_read.specs.Data.{Data, array, no_items};
 ghost use Rattle.json_read.specs.JsonDictionary.{WrapsTexts};
 ghost use Rattle.json_read.specs.JsonEncoding.{id_of};
 ghost use Rattle.json_scan.specs.Spelling.{Spells, SpellsAt, before};
 ghost use Rattle.json_file.specs.Dictionary.{AreEntries, AreWords, IsEntry};
 
 use crate::texts::read_texts;
-use arrays::Words;
-use colbits::NoMemory;
-use json_base::Member;
+use arrays::{INT64, NoMemory, Words};
+use json_read::Member;
 use json_scan::{ItemVisitor, MemberVisitor, Miss, Placed, pass_value, read_array, read_object};
 use json_stream::read_whole;
 use std::alloc::Global;
 use std::sync::Arc;
-use types::INT64;
 
 /// An entry: the number of a dictionary, and its texts.
 #[derive(Drop)]

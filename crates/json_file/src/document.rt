@@ -1,7 +1,7 @@
 //! The document of a file: its members in any order, of those of one name the last.
 
 ghost use Rattle.std.specs.Prelude.{◌≡◌, ◌<◌, ◌≤◌, Option, Some, length, drop, IfOk, IfSome};
-ghost use Rattle.serde_json.specs.Data.{Data, Members, object};
+ghost use Rattle.json_read.specs.Data.{Data, Members, object};
 ghost use Rattle.json_read.specs.JsonFile.{AreUnder, Reads, ReadsFile, file_of};
 ghost use Rattle.json_scan.specs.Spelling.{SpellsAt};
 ghost use Rattle.json_stream.specs.Column.{StandsOn};
@@ -10,8 +10,7 @@ ghost use Rattle.json_file.specs.Document.{HoldsDocument, HoldsFile, IsFileAt, S
 use crate::batches::read_batches;
 use crate::head::{HeadPlaces, head_at, pass_member};
 use arrays::File;
-use json_base::Member;
-use json_read::FileHead;
+use json_read::{FileHead, Member};
 use json_scan::{
     Container, MemberVisitor, Miss, Placed, after_space, ends_in, pass_value, read_object,
 };

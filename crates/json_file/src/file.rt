@@ -1,13 +1,13 @@
 //! Files, without a tree where that can be.
 
 ghost use Rattle.std.specs.Prelude.{IfOk, IfErr};
-ghost use Rattle.json_base.specs.JsonFault.{Tells};
+ghost use Rattle.json_read.specs.FaultAt.{Tells};
 ghost use Rattle.json_read.specs.JsonFile.{AreUnder, BytesFault, Reads, file_of};
 
 use crate::document::read_text;
 use crate::syntax::check_json;
 use arrays::File;
-use json_base::JsonFault;
+use json_read::JsonFault;
 use json_scan::Miss;
 use std::alloc::Global;
 

@@ -2,9 +2,9 @@
 
 ghost use Rattle.std.specs.Prelude.{◌≡◌, ◌<◌, ◌≤◌, false, length, drop, map, option_map, Some, IfOk, IfSome};
 ghost use Rattle.std.specs.Arc.{arc_value};
-ghost use Rattle.json.specs.Lex.{lex, between, begins_colon};
-ghost use Rattle.serde_json.specs.Data.{Data};
-ghost use Rattle.serde_json.specs.View.{view};
+ghost use Rattle.json_scan.specs.Lex.{lex, between, begins_colon};
+ghost use Rattle.json_read.specs.Data.{Data};
+ghost use Rattle.json_read.specs.View.{view};
 ghost use Rattle.json_read.specs.CatalogParts.{coding_of};
 ghost use Rattle.json_read.specs.EncodingParts.{AreEncoded, parts_of};
 ghost use Rattle.json_read.specs.JsonCatalog.{HasCatalog};
@@ -15,12 +15,10 @@ ghost use Rattle.json_stream.specs.Column.{StandsOn};
 ghost use Rattle.json_file.specs.Document.{StandsAt};
 
 use crate::catalog::read_catalog;
-use json_base::{JsonFaultKind, Member};
-use json_read::{EncodedSchema, FileHead, read_schema};
+use json_read::{EncodedSchema, FileHead, JsonFaultKind, Member, Value, read_schema};
 use json_scan::{Container, Miss, ends_in, pass_value, read_key, read_value};
 use json_stream::Stretch;
 use memchr::memmem;
-use serde_json::Value;
 use std::alloc::Global;
 
 /// Where `schema` and `dictionaries` stand, if they are there.

@@ -1,14 +1,14 @@
 //! Whether bytes are JSON at all, seen without a tree.
 
 ghost use Rattle.std.specs.Prelude.{◌≡◌, false, None, IfOk, IfErr};
-ghost use Rattle.serde_json.specs.Read.{read};
-ghost use Rattle.json_base.specs.JsonFault.{Tells};
-ghost use Rattle.json_base.specs.JsonMember.{NoDocument};
+ghost use Rattle.json_read.specs.Read.{read};
+ghost use Rattle.json_read.specs.FaultAt.{Tells};
+ghost use Rattle.json_read.specs.JsonMember.{NoDocument};
 
 use crate::document::MAX_DEPTH;
-use colbits::NoMemory;
-use json::{Reader, Scratch};
-use json_base::{JsonFault, JsonFaultKind};
+use arrays::NoMemory;
+use json_read::{JsonFault, JsonFaultKind};
+use json_scan::{Reader, Scratch};
 use std::alloc::Global;
 
 /// Whether the text is JSON. A number that is too large isn't looked at.
@@ -27,7 +27,7 @@ fn is_json(alloc: Global, text: &str) -> Result<bool, NoMemory>
 }
 
 /// Refuses bytes that are no JSON.
-#[tactic(auto, using(json_base::proofs::JsonTells::document_faults))]
+#[tactic(auto, using(json_read::proofs::JsonTells::document_faults))]
 pub(crate) fn check_json(alloc: Global, bytes: &[u8]) -> Result<(), JsonFault>
     ensures { IfErr result (Tells (NoDocument bytes.now)) }
 {

@@ -3,13 +3,13 @@
 ghost use Rattle.std.specs.Prelude.{◌≡◌, ◌<◌, ◌≤◌, ◌∷◌, [], Some, length, drop, IfOk, IfSome};
 ghost use Rattle.arrays.specs.Kind.{utf8};
 ghost use Rattle.arrays.specs.Shape.{field_of, kind_of_field};
-ghost use Rattle.serde_json.specs.Data.{Data};
+ghost use Rattle.json_read.specs.Data.{Data};
 ghost use Rattle.json_read.specs.JsonDictionary.{WrapsTexts};
 ghost use Rattle.json_scan.specs.Spelling.{SpellsAt};
 ghost use Rattle.json_file.specs.Texts.{IsBatchOfTexts, IsOnlyColumn};
 
 use arrays::{Array, DataType, Field};
-use json_base::Member;
+use json_read::Member;
 use json_scan::{
     ItemVisitor, MemberVisitor, Miss, Placed, after_space, pass_value, read_array, read_object,
 };

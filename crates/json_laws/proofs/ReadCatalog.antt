@@ -5,8 +5,8 @@ use Rattle.std.specs.List.{AllByRecursion}
 use Rattle.std.proofs.lemmas.List.{length-map}
 use Rattle.std.proofs.lemmas.List.Sums.{sum_by-cons}
 use Rattle.std.proofs.lemmas.Bool.{le-ltb, or_right}
-use Rattle.types.specs.Limits.{most_slots}
-use Rattle.types.specs.declared.offset_width.OffsetWidth.TheVariants.{Narrow}
+use Rattle.arrays.specs.Limits.{most_slots}
+use Rattle.arrays.specs.OffsetWidths.{Narrow}
 use Rattle.arrays.specs.Item.{text}
 use Rattle.arrays.specs.Kind as kind
 use Rattle.arrays.specs.Kind.{Kind, int32}
@@ -15,8 +15,8 @@ use Rattle.arrays.specs.Shape as shape
 use Rattle.arrays.specs.Shape.{FieldShape, int, boolean, dict, field, kind_of_field}
 use Rattle.arrays.specs.Typed.{IsItemOf}
 use Rattle.pool.specs.Texts.{byte_count}
-use Rattle.serde_json.specs.Data.{Data, array, object, Items, member}
-use Rattle.serde_json.specs.Find.{as_array, get_item}
+use Rattle.json_base.specs.Data.{Data, array, object, Items, member}
+use Rattle.json_base.specs.Find.{as_array, get_item}
 use Rattle.json_base.specs.declared.path.Member.TheVariants as at_member
 use Rattle.json_read.specs.JsonCatalog.{Coding, HasCatalog, HasCoding, HasDictionary, HasEntries, HasId, listed_fields}
 use Rattle.json_read.specs.JsonColumn.{ReadsPlain, texts as texts_spelled}

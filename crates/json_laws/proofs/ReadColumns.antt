@@ -2,8 +2,8 @@
 use Rattle.std.proofs.Common.{◌≡◌, ℕ, ◌<◌, ◌≤◌, ◌^◌, List, [], ◌∷◌, length, false, Some, option_map, refl, ap, subst, arith}
 use Rattle.std.specs.List.{AllByRecursion}
 use Rattle.std.proofs.lemmas.Bool.{ltb-false}
-use Rattle.types.specs.declared.int_type.IntType.{IntType}
-use Rattle.types.specs.declared.offset_width.OffsetWidth.{OffsetWidth}
+use Rattle.arrays.specs.IntType.{IntType}
+use Rattle.arrays.specs.OffsetWidth.{OffsetWidth}
 use Rattle.arrays.specs.Item as column
 use Rattle.arrays.specs.Item.{Item}
 use Rattle.arrays.specs.Kind as kind
@@ -11,7 +11,7 @@ use Rattle.arrays.specs.Kind.{Kind, depth, ends_in_dict, has_dict_in_list}
 use Rattle.arrays.specs.Lengths.{inner_items, is_too_big}
 use Rattle.arrays.specs.Shape.{Shape, FieldShape, int, boolean, texts, lists, dict, field, kind_of_field, kind_of_shape}
 use Rattle.arrays.specs.Typed.{IsItemOf}
-use Rattle.serde_json.specs.Data.{Data}
+use Rattle.json_base.specs.Data.{Data}
 use Rattle.json_read.specs.JsonBatch.{ReadsColumn}
 use Rattle.json_read.specs.JsonColumn.{ReadsPlain, Spelling, numbers, texts as texts_spelled, truths}
 use Rattle.json_read.proofs.JsonLists.{column_plain}

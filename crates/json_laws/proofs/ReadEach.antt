@@ -1,9 +1,9 @@
 -- Items that are read one by one.
 use Rattle.std.proofs.Common.{◌≡◌, ℕ, zero, suc, List, [], ◌∷◌, length, Some, refl, ap}
 use Rattle.std.specs.Prelude.{slice_get, ⊤}
-use Rattle.serde_json.specs.Data.{Data, Items, no_items, item}
-use Rattle.serde_json.specs.Events.{items_len}
-use Rattle.serde_json.specs.Find.{get_item}
+use Rattle.json_base.specs.Data.{Data, Items, no_items, item}
+use Rattle.json_base.specs.Events.{items_len}
+use Rattle.json_base.specs.Find.{get_item}
 use Rattle.json_base.specs.JsonMember.{ReadsEach}
 use Rattle.json_base.proofs.JsonItems.{moved}
 

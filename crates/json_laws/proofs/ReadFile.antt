@@ -10,9 +10,9 @@ use Rattle.arrays.specs.Kind.{Kind, int32}
 use Rattle.arrays.specs.Shape as shape
 use Rattle.arrays.specs.Shape.{FieldShape, int, boolean, dict, field, kind_of_field}
 use Rattle.pool.specs.Texts.{firsts, texts_of}
-use Rattle.serde_json.specs.Data.{Data}
-use Rattle.serde_json.specs.Events.{items_len}
-use Rattle.serde_json.specs.Find.{as_array, get_item}
+use Rattle.json_base.specs.Data.{Data}
+use Rattle.json_base.specs.Events.{items_len}
+use Rattle.json_base.specs.Find.{as_array, get_item}
 use Rattle.json_base.specs.JsonTable.{Table, tables_of}
 use Rattle.json_base.specs.declared.path.Member.TheVariants as at_member
 use Rattle.json_read.specs.JsonBatch.{ReadsBatch, ReadsTop}

@@ -1,15 +1,15 @@
 -- A schema reads back as its fields.
 use Rattle.std.proofs.Common.{◌≡◌, ℕ, suc, ◌+◌, ◌*◌, ◌<◌, ◌≤◌, ◌^◌, pos, List, [], ◌∷◌, length, Bool, false, Some, refl, ap, arith}
 use Rattle.std.specs.List.{AllByRecursion}
-use Rattle.types.specs.declared.int_type.IntType.{IntType}
-use Rattle.types.specs.declared.int_type.Width.{Width}
-use Rattle.types.specs.declared.int_type.Width.TheVariants.{W8, W16, W32, W64}
-use Rattle.types.specs.declared.offset_width.OffsetWidth.{OffsetWidth}
-use Rattle.types.specs.declared.offset_width.OffsetWidth.TheVariants.{Narrow, Wide}
+use Rattle.arrays.specs.IntType.{IntType}
+use Rattle.arrays.specs.Width.{Width}
+use Rattle.arrays.specs.Widths.{W8, W16, W32, W64}
+use Rattle.arrays.specs.OffsetWidth.{OffsetWidth}
+use Rattle.arrays.specs.OffsetWidths.{Narrow, Wide}
 use Rattle.arrays.specs.Kind.{bytes_of, ends_in_dict, int32}
 use Rattle.arrays.specs.Schema.{holds_dict, is_deep}
 use Rattle.arrays.specs.Shape.{FieldShape, int, boolean, texts, lists, dict, field, kind_of_field}
-use Rattle.serde_json.specs.Data.{unsigned}
+use Rattle.json_base.specs.Data.{unsigned}
 use Rattle.json_base.specs.JsonNumber.{width_of}
 use Rattle.json_read.specs.JsonEncoding.{IsEncoding}
 use Rattle.json_read.specs.JsonFields.{ReadsField, ReadsSchema, encoded_field, plain_field}

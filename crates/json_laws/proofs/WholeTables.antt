@@ -18,7 +18,7 @@ use Rattle.arrays.proofs.BatchLemmas.{whole}
 use Rattle.json_base.specs.JsonTable.{Table, items_of, table_of, tables_of}
 use Rattle.json_print.proofs.Batches.{lawful_kinds, neither}
 use Rattle.json_laws.specs.IsFile.{AreColumns, IsBatch, IsColumn, IsShown, IsTable}
-use Rattle.types.specs.Limits.{most_slots}
+use Rattle.arrays.specs.Limits.{most_slots}
 
 -- ---- loops
 

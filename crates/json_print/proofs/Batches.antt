@@ -4,9 +4,9 @@ use Rattle.std.proofs.lemmas.List.{get_or-map, length-map}
 use Rattle.std.proofs.lemmas.Option.{get_or_from_slice_get, slice_get-get_or, slice_get_within}
 use Rattle.std.specs.Prelude.{slice_get}
 use Rattle.std.specs.List.{All, list_any, zip}
-use Rattle.layout.proofs.ChildLemmas.{same_kinds}
-use Rattle.types.proofs.ShapeLemmas.{kind_of_field-field_of}
-use Rattle.types.specs.declared.data_type.Field.{Field, out-Field}
+use Rattle.arrays.proofs.ChildLemmas.{same_kinds}
+use Rattle.arrays.proofs.ShapeLemmas.{kind_of_field-field_of}
+use Rattle.arrays.specs.Field.{Field, out-Field}
 use Rattle.arrays.specs.Batch.{Batch, batch_fault}
 use Rattle.arrays.specs.File.{AreBatchesOf, kinds_of}
 use Rattle.arrays.specs.Kind.{Kind, dict, kind_of, same_kind}

@@ -1,18 +1,18 @@
 -- How deep the documents of files are.
 use Rattle.std.proofs.Common.{◌≡◌, ℕ, suc, max, ◌+◌, ◌*◌, ◌≤◌, ℤ, pos, List, [], ◌∷◌, Bool, true, false, not, refl, ap₂, arith}
-use Rattle.types.specs.declared.int_type.IntType.{IntType}
-use Rattle.types.specs.declared.int_type.Width.{Width}
-use Rattle.types.specs.declared.int_type.Width.TheVariants.{W8, W16, W32, W64}
-use Rattle.types.specs.declared.offset_width.OffsetWidth.{OffsetWidth}
-use Rattle.types.specs.declared.offset_width.OffsetWidth.TheVariants.{Narrow}
-use Rattle.types.specs.OffsetWidth.{offset_type}
+use Rattle.arrays.specs.IntType.{IntType}
+use Rattle.arrays.specs.Width.{Width}
+use Rattle.arrays.specs.Widths.{W8, W16, W32, W64}
+use Rattle.arrays.specs.OffsetWidth.{OffsetWidth}
+use Rattle.arrays.specs.OffsetWidths.{Narrow}
+use Rattle.arrays.specs.OffsetSize.{offset_type}
 use Rattle.arrays.specs.Item as column
 use Rattle.arrays.specs.Item.{Item, is_null}
 use Rattle.arrays.specs.Kind as kind
 use Rattle.arrays.specs.Lengths.{inner_items}
 use Rattle.arrays.specs.Shape as shape
 use Rattle.arrays.specs.Shape.{Shape, FieldShape, int, boolean, dict, field, kind_of_field, kind_of_shape}
-use Rattle.serde_json.specs.Data.{Data, Items, depth, items_depth, members_depth}
+use Rattle.json_base.specs.Data.{Data, Items, depth, items_depth, members_depth}
 use Rattle.json_print.specs.BatchData.{batch_data, batches_data, columns_data}
 use Rattle.json_base.specs.JsonTable.{Table}
 use Rattle.json_print.specs.ColumnData.{code_data, column_data, each, flag_data, int_data, item_length, list_column, number_data, offset_data, offsets_data, plain_column, shaped_column, text_column, text_data, truth_data, valid_data}

@@ -1,4 +1,5 @@
 -- What the proofs of this crate share.
+pub use Rattle.json.proofs.Found
 pub mod Steps
 pub mod Shapes
 pub mod Ranges

@@ -5,11 +5,11 @@ use Rattle.std.specs.List.{AllByRecursion}
 use Rattle.std.specs.Str.{bytes_eq}
 use Rattle.std.proofs.lemmas.Int.{ints}
 use Rattle.std.proofs.lemmas.List.Sums.{sum_by-cons}
-use Rattle.types.specs.declared.int_type.IntType.{IntType}
-use Rattle.types.specs.declared.int_type.Width.{Width}
-use Rattle.types.specs.declared.int_type.Width.TheVariants.{W8, W16, W32, W64}
-use Rattle.types.specs.declared.offset_width.OffsetWidth.{OffsetWidth}
-use Rattle.types.specs.declared.offset_width.OffsetWidth.TheVariants.{Narrow, Wide}
+use Rattle.arrays.specs.IntType.{IntType}
+use Rattle.arrays.specs.Width.{Width}
+use Rattle.arrays.specs.Widths.{W8, W16, W32, W64}
+use Rattle.arrays.specs.OffsetWidth.{OffsetWidth}
+use Rattle.arrays.specs.OffsetWidths.{Narrow, Wide}
 use Rattle.arrays.specs.Item as column
 use Rattle.arrays.specs.Item.{Item, is_null}
 use Rattle.arrays.specs.Kind as kind
@@ -18,7 +18,7 @@ use Rattle.arrays.specs.Shape as shape
 use Rattle.arrays.specs.Shape.{Shape, FieldShape, int, boolean, dict, field}
 use Rattle.arrays.specs.Typed.{IsItemOf}
 use Rattle.pool.proofs.PlaceLemmas.{position_found}
-use Rattle.serde_json.specs.Data.{Data}
+use Rattle.json_base.specs.Data.{Data}
 use Rattle.json_print.specs.ColumnData.{code_data, column_data, each, flag_data, int_data, item_length, list_column, number_data, offset_data, offsets_data, plain_column, shaped_column, sized, text_column, text_data, truth_data, valid_data, whole_data}
 use Rattle.json_print.specs.Plain.{ArePlain, ArePlainMembers, IsPlain}
 use Rattle.json_print.specs.Slots.{code_in}

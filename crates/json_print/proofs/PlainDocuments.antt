@@ -3,13 +3,13 @@ use Rattle.std.proofs.Common.{◌≡◌, ◌∙◌, ℕ, suc, ◌+◌, ◌<◌, 
 use Rattle.std.specs.Prelude.{sum_by}
 use Rattle.std.proofs.lemmas.List.{length-map}
 use Rattle.std.proofs.lemmas.List.Sums.{sum_by-cons}
-use Rattle.types.specs.declared.offset_width.OffsetWidth.TheVariants.{Narrow}
+use Rattle.arrays.specs.OffsetWidths.{Narrow}
 use Rattle.arrays.specs.File.{File}
 use Rattle.arrays.specs.Item.{text}
 use Rattle.arrays.specs.Shape as shape
 use Rattle.arrays.specs.Shape.{FieldShape, int, boolean, dict, field}
-use Rattle.serde_json.specs.Data.{Items, depth}
-use Rattle.serde_json.specs.Read.{read}
+use Rattle.json_base.specs.Data.{Items, depth}
+use Rattle.json_base.specs.Read.{read}
 use Rattle.json_base.specs.JsonTable.{Table, tables_of}
 use Rattle.json_print.specs.ColumnData.{item_length}
 use Rattle.json_print.specs.Dictionaries.{dictionaries_from}

@@ -1,8 +1,8 @@
 -- Schemas are plain values.
 use Rattle.std.proofs.Common.{ℕ, suc, ◌+◌, ◌*◌, ◌<◌, ◌≤◌, ◌^◌, List, [], ◌∷◌, length, Bool, refl, arith, lit<}
-use Rattle.types.specs.declared.int_type.IntType.{IntType}
-use Rattle.types.specs.declared.int_type.Width.{Width}
-use Rattle.types.specs.declared.int_type.Width.TheVariants.{W8, W16, W32, W64}
+use Rattle.arrays.specs.IntType.{IntType}
+use Rattle.arrays.specs.Width.{Width}
+use Rattle.arrays.specs.Widths.{W8, W16, W32, W64}
 use Rattle.arrays.specs.Kind.{bytes_of, int32}
 use Rattle.arrays.specs.Shape.{Shape, FieldShape, int, boolean, texts, lists, dict, field}
 use Rattle.json_print.specs.Plain.{ArePlain, ArePlainMembers, IsPlain}

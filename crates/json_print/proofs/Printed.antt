@@ -2,7 +2,7 @@
 use Rattle.std.proofs.Common.{◌≡◌, ◌∙◌, List, [], ◌++◌, ap}
 use Rattle.json.specs.Print.{print}
 use Rattle.json.specs.Token.{Token}
-use Rattle.serde_json.proofs.Texts.{print-outline}
+use Rattle.json_base.proofs.Texts.{print-outline}
 use Rattle.arrays.specs.File.{File}
 use Rattle.json_base.specs.JsonTable.{tables_of}
 use Rattle.json_print.specs.Text.{document, text}

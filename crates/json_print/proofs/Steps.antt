@@ -5,11 +5,11 @@ use Rattle.std.proofs.lemmas.List.{get_or-map, length-map}
 use Rattle.std.proofs.lemmas.List.Elements.{All-get_or}
 use Rattle.std.proofs.lemmas.List.Sums.{sum_by-cons}
 use Rattle.std.specs.List.{All, flat_map}
-use Rattle.types.specs.declared.offset_width.OffsetWidth.{OffsetWidth}
+use Rattle.arrays.specs.OffsetWidth.{OffsetWidth}
 use Rattle.arrays.specs.Item.{Item}
 use Rattle.json.specs.Tree.{items_tokens}
-use Rattle.serde_json.specs.Data.{Data}
-use Rattle.serde_json.specs.Written.{items_outline}
+use Rattle.json_base.specs.Data.{Data}
+use Rattle.json_base.specs.Written.{items_outline}
 use Rattle.json_print.specs.ColumnData.{each, item_length, offset_data, offsets_data}
 use Rattle.json_print.specs.Slots.{starts_tokens}
 use Rattle.json_print.specs.Written.{tokens_of}

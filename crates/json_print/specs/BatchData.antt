@@ -2,7 +2,7 @@
 use Rattle.std.specs.Prelude.{ℕ, List, [], ◌∷◌, codes}
 use Rattle.arrays.specs.Item.{Item}
 use Rattle.arrays.specs.Shape.{FieldShape}
-use Rattle.serde_json.specs.Data.{Data, array, object, Items, no_items, item, no_members, member}
+use Rattle.json_base.specs.Data.{Data, array, object, Items, no_items, item, no_members, member}
 use Rattle.json_base.specs.JsonTable.{Table}
 use Rattle.json_print.specs.ColumnData.{column_data}
 use Rattle.json_print.specs.Slots.{code_in}

@@ -1,4 +1,5 @@
 -- The words of this crate's contracts.
+pub use Rattle.json.specs.Print
 pub mod Written
 pub mod SchemaData
 pub mod ColumnData

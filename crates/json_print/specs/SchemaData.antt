@@ -1,11 +1,11 @@
 -- The schema of a file as a value. (Arrow integration testing, "JSON test data format", Schema and Field)
 use Rattle.std.specs.Prelude.{ℕ, suc, ◌*◌, List, [], ◌∷◌, codes, Bool, false}
-use Rattle.types.specs.declared.int_type.IntType.{IntType}
-use Rattle.types.specs.declared.offset_width.OffsetWidth.{OffsetWidth}
-use Rattle.types.specs.declared.offset_width.OffsetWidth.TheVariants.{Narrow, Wide}
-use Rattle.types.specs.Kind.{bytes_of, int32}
-use Rattle.types.specs.Shape.{Shape, FieldShape, int, boolean as truth, texts, lists, dict, field}
-use Rattle.serde_json.specs.Data.{Data, boolean, string, array, object, Items, no_items, item, Members, no_members, member}
+use Rattle.arrays.specs.IntType.{IntType}
+use Rattle.arrays.specs.OffsetWidth.{OffsetWidth}
+use Rattle.arrays.specs.OffsetWidths.{Narrow, Wide}
+use Rattle.arrays.specs.Kind.{bytes_of, int32}
+use Rattle.arrays.specs.Shape.{Shape, FieldShape, int, boolean as truth, texts, lists, dict, field}
+use Rattle.json_base.specs.Data.{Data, boolean, string, array, object, Items, no_items, item, Members, no_members, member}
 use Rattle.json_print.specs.Written.{natural}
 
 -- An integer type.

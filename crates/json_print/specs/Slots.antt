@@ -7,8 +7,8 @@ use Rattle.arrays.specs.Kind as kind
 use Rattle.arrays.specs.Kind.{Kind}
 use Rattle.arrays.specs.Seen.{Seen}
 use Rattle.json.specs.Token.{Token}
-use Rattle.serde_json.specs.Data.{Data}
-use Rattle.types.specs.declared.offset_width.OffsetWidth.{OffsetWidth}
+use Rattle.json_base.specs.Data.{Data}
+use Rattle.arrays.specs.OffsetWidth.{OffsetWidth}
 use Rattle.json_print.specs.Written.{tokens_of}
 use Rattle.json_print.specs.ColumnData.{code_data, item_length, number_data, offset_data, text_data, truth_data, valid_data}
 use Rattle.json_print.specs.declared.slots.Part.{Part}

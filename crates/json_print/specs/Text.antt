@@ -4,8 +4,8 @@ use Rattle.std.specs.List.{list_any}
 use Rattle.arrays.specs.File.{File}
 use Rattle.arrays.specs.Kind.{Kind, int, boolean, texts, lists, dict}
 use Rattle.arrays.specs.Shape.{FieldShape, kind_of_field}
-use Rattle.serde_json.specs.Data.{Data, array, object, Members, no_members, member}
-use Rattle.serde_json.specs.Written.{compact_text}
+use Rattle.json_base.specs.Data.{Data, array, object, Members, no_members, member}
+use Rattle.json_base.specs.Written.{compact_text}
 use Rattle.json_print.specs.BatchData.{batches_data}
 use Rattle.json_base.specs.JsonTable.{Table, tables_of}
 use Rattle.json_print.specs.Dictionaries.{dictionaries_from}

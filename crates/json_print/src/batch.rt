@@ -4,7 +4,7 @@ ghost use Rattle.std.specs.Prelude.{◌≡◌, OnOk, length, map};
 ghost use Rattle.arrays.specs.File.{kinds_of};
 ghost use Rattle.arrays.specs.Kind.{kind_of};
 ghost use Rattle.arrays.specs.Shape.{field_of, fields_of};
-ghost use Rattle.types.specs.declared.data_type.Field.{out-Field};
+ghost use Rattle.arrays.specs.Field.{out-Field};
 ghost use Rattle.json_print.specs.BatchData.{batch_data, columns_data};
 ghost use Rattle.json_base.specs.JsonTable.{items_of, table_of};
 ghost use Rattle.json_print.specs.ColumnData.{column_data};
@@ -14,8 +14,7 @@ ghost use Rattle.json_print.specs.Written.{Adds, AddsItems};
 use crate::column::write_column;
 use crate::output::Output;
 use crate::text_set::TextSet;
-use arrays::{Array, Field, RecordBatch};
-use colbits::NoMemory;
+use arrays::{Array, Field, NoMemory, RecordBatch};
 use std::alloc::Global;
 
 /// Writes a column of a batch.

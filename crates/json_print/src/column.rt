@@ -5,7 +5,7 @@ ghost use Rattle.arrays.specs.Kind as kind;
 ghost use Rattle.arrays.specs.Kind.{kind_of};
 ghost use Rattle.arrays.specs.Lengths.{inner_items, joined_items};
 ghost use Rattle.arrays.specs.Shape.{field_of};
-ghost use Rattle.types.specs.declared.data_type.Field.{out-Field};
+ghost use Rattle.arrays.specs.Field.{out-Field};
 ghost use Rattle.json_print.specs.ColumnData.{column_data, list_column, only, plain_column, sized, text_column};
 ghost use Rattle.json_print.specs.Slots.{AreOf, IsPartOf, code_in, part_data};
 ghost use Rattle.json_print.specs.Written.{Adds, AddsMembers};
@@ -14,8 +14,7 @@ use crate::lists::lists_of;
 use crate::output::Output;
 use crate::slots::{Part, slot_count, write_array, write_offsets};
 use crate::text_set::TextSet;
-use arrays::{DataType, Field, OffsetWidth, View};
-use colbits::NoMemory;
+use arrays::{DataType, Field, NoMemory, OffsetWidth, View};
 use std::alloc::Global;
 
 /// Writes the members with which each column ends.

@@ -8,15 +8,14 @@ ghost use Rattle.arrays.specs.Kind as kind;
 ghost use Rattle.arrays.specs.Kind.{kind_of};
 ghost use Rattle.arrays.specs.Shape.{fields_of};
 ghost use Rattle.arrays.specs.Slot.{is_text};
-ghost use Rattle.types.specs.declared.data_type.Field.{out-Field};
+ghost use Rattle.arrays.specs.Field.{out-Field};
 ghost use Rattle.pool.specs.Texts.{firsts, texts_of};
 ghost use Rattle.json_base.specs.JsonTable.{table_of, tables_of};
 ghost use Rattle.json_print.specs.Dictionaries.{IsEncodedAt, column_at, column_items, dictionaries_from, dictionary_of, with_items};
 ghost use Rattle.pool.specs.Places.{with_item};
 
 use crate::text_set::TextSet;
-use arrays::{DataType, Field, RecordBatch, View};
-use colbits::NoMemory;
+use arrays::{DataType, Field, NoMemory, RecordBatch, View};
 use std::alloc::Global;
 use std::sync::Arc;
 

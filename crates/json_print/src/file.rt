@@ -6,7 +6,7 @@ ghost use Rattle.std.specs.Arc.{arc_value};
 ghost use Rattle.arrays.specs.File.{AreBatchesOf};
 ghost use Rattle.arrays.specs.Kind.{kind_of};
 ghost use Rattle.arrays.specs.Shape.{fields_of};
-ghost use Rattle.types.specs.declared.data_type.Field.{out-Field};
+ghost use Rattle.arrays.specs.Field.{out-Field};
 ghost use Rattle.json_print.specs.BatchData.{batches_data};
 ghost use Rattle.json_base.specs.JsonTable.{tables_of};
 ghost use Rattle.json_print.specs.Text.{document, has_dictionary, is_encoded, last_members, schema_member, text};
@@ -18,8 +18,7 @@ use crate::entry::write_entries;
 use crate::output::Output;
 use crate::schema::write_schema;
 use crate::text_set::TextSet;
-use arrays::{DataType, Field, File, RecordBatch, Schema};
-use colbits::NoMemory;
+use arrays::{DataType, Field, File, NoMemory, RecordBatch, Schema};
 use std::alloc::Global;
 use std::sync::Arc;
 

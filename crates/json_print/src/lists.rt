@@ -7,8 +7,7 @@ ghost use Rattle.arrays.specs.Lengths.{inner_items, items_in, joined_items};
 ghost use Rattle.arrays.specs.Slot.{is_list};
 ghost use Rattle.json_print.specs.Slots.{AreOf};
 
-use arrays::View;
-use colbits::NoMemory;
+use arrays::{NoMemory, View};
 use std::alloc::Global;
 
 /// Adds list `i` of a column, if it is there, as the column of its items.

@@ -2,14 +2,13 @@
 
 ghost use Rattle.std.specs.Prelude.{◌^◌, ◌-◌, ◌≤ℤ◌, OnOk, neg_ℤ, pos};
 ghost use Rattle.std.specs.Fmt.{signed_decimal};
-ghost use Rattle.types.specs.Number.{IsOfType};
-ghost use Rattle.serde_json.specs.Data.{string};
+ghost use Rattle.arrays.specs.Number.{IsOfType};
+ghost use Rattle.json_base.specs.Data.{string};
 ghost use Rattle.json_print.specs.ColumnData.{int_data, offset_data, whole_data};
 ghost use Rattle.json_print.specs.Written.{Adds};
 
 use crate::output::Output;
-use arrays::{IntType, OffsetWidth, Width};
-use colbits::NoMemory;
+use arrays::{IntType, NoMemory, OffsetWidth, Width};
 
 /// Writes a number of at most 64 bits.
 fn write_plain(out: &mut Output, number: i128) -> Result<(), NoMemory>

@@ -5,7 +5,7 @@ ghost use Rattle.std.specs.Fmt.{signed_decimal};
 ghost use Rattle.json.specs.Print.{print};
 ghost use Rattle.json.specs.Token as token;
 
-use colbits::NoMemory;
+use arrays::NoMemory;
 use json::Writer;
 use std::alloc::Global;
 use std::marker::Model;

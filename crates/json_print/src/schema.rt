@@ -1,14 +1,13 @@
 //! The schema of a file as text.
 
 ghost use Rattle.std.specs.Prelude.{OnOk, string_bytes};
-ghost use Rattle.types.specs.Shape.{field_of, fields_of, shape_of};
-ghost use Rattle.types.specs.declared.data_type.Field.{out-Field};
+ghost use Rattle.arrays.specs.Shape.{field_of, fields_of, shape_of};
+ghost use Rattle.arrays.specs.Field.{out-Field};
 ghost use Rattle.json_print.specs.Written.{Adds, AddsItems, AddsMembers};
 ghost use Rattle.json_print.specs.SchemaData.{children_data, dictionary_data, field_data, fields_data, int_type, named_members, named_type, other_members, schema_data, type_data};
 
 use crate::output::Output;
-use arrays::{DataType, Field, INT32, IntType, Schema};
-use colbits::NoMemory;
+use arrays::{DataType, Field, INT32, IntType, NoMemory, Schema};
 
 /// Writes an integer type.
 fn write_int_type(out: &mut Output, ty: IntType) -> Result<(), NoMemory>

@@ -4,7 +4,7 @@ ghost use Rattle.std.specs.Prelude.{◌≡◌, ◌+◌, ◌++◌, ◌<◌, All, 
 ghost use Rattle.arrays.specs.Item.{null};
 ghost use Rattle.arrays.specs.Slot.{item_of_text};
 ghost use Rattle.arrays.specs.Typed.{IsItemOf};
-ghost use Rattle.serde_json.specs.Data.{array};
+ghost use Rattle.json_base.specs.Data.{array};
 ghost use Rattle.json_print.specs.ColumnData.{code_data, each, flag_data, item_length, offsets_data};
 ghost use Rattle.json_print.specs.Slots.{AddsEach, IsPartOf, code_in, is_sized, part_data, starts_tokens};
 ghost use Rattle.arrays.specs.Lengths.{joined_items};
@@ -13,8 +13,7 @@ ghost use Rattle.json_print.specs.Written.{Adds, AddsItems};
 use crate::number::{write_number, write_offset};
 use crate::output::Output;
 use crate::text_set::TextSet;
-use arrays::{IntType, OffsetWidth, View, ViewType};
-use colbits::NoMemory;
+use arrays::{IntType, NoMemory, OffsetWidth, View, ViewType};
 
 /// What is written of each slot of a column.
 #[derive(Clone, Copy)]

@@ -4,7 +4,7 @@ ghost use Rattle.std.specs.Prelude.{◌≡◌, ◌++◌, ◌∷◌, [], OnOk, fa
 ghost use Rattle.std.specs.Str.{bytes_eq};
 ghost use Rattle.pool.specs.Texts.{is_among, with_text};
 
-use colbits::NoMemory;
+use arrays::NoMemory;
 use indexmap::IndexSet;
 use std::alloc::Global;
 use std::marker::Model;

@@ -1,17 +1,17 @@
 -- Why a fault of an expression stands.
 use Rattle.std.proofs.Common.{◌≡◌, ◌≢◌, ℕ, List, [], ◌∷◌, Some, None, option_and_then}
 use Rattle.query.specs.declared.expr.Op.{Op}
-use Rattle.serde_json.specs.Data.{Data, Items}
-use Rattle.serde_json.specs.Find.{as_array, as_object, as_str}
-use Rattle.serde_json.specs.Events.{items_len}
-use Rattle.serde_json.proofs.Views.{items_len-items_view}
+use Rattle.json_base.specs.Data.{Data, Items}
+use Rattle.json_base.specs.Find.{as_array, as_object, as_str}
+use Rattle.json_base.specs.Events.{items_len}
+use Rattle.json_base.proofs.Views.{items_len-items_view}
 use Rattle.json_base.specs.declared.path.Member.TheVariants as member
 use Rattle.json_base.specs.declared.path.Step.{Step}
 use Rattle.json_base.specs.declared.path.Step.TheVariants as step
 use Rattle.json_base.specs.declared.fault.JsonFault.{JsonFault}
 use Rattle.json_base.specs.declared.fault.JsonFaultKind.{JsonFaultKind}
 use Rattle.json_base.specs.declared.fault.JsonFaultKind.TheVariants.{WrongMember, BadNumber}
-use Rattle.json_base.specs.JsonFault.{IsFault, IsUnder, Tells}
+use Rattle.json_base.specs.FaultAt.{IsFault, IsUnder, Tells}
 use Rattle.json_base.specs.JsonMember.{member_of, Unlike, unlike, Missing, MemberFault, EachFault, item}
 use Rattle.json_base.proofs.JsonTells.{tells_at, tells_as, tells_under, tells_wants}
 use Rattle.json_base.proofs.MemberLaws.{no_missing}

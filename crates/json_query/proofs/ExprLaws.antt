@@ -4,10 +4,10 @@ use Rattle.query.specs.declared.expr.Op.{Op}
 use Rattle.query.specs.declared.expr.Op.TheVariants as op
 use Rattle.query.specs.Tree as tree
 use Rattle.query.specs.Tree.{Tree, Trees, none, one}
-use Rattle.serde_json.specs.Data as data'
-use Rattle.serde_json.specs.Data.{Data, Items, item}
-use Rattle.serde_json.specs.Find.{get_item, as_array, as_null, as_str}
-use Rattle.serde_json.specs.Events.{items_len}
+use Rattle.json_base.specs.Data as data'
+use Rattle.json_base.specs.Data.{Data, Items, item}
+use Rattle.json_base.specs.Find.{get_item, as_array, as_null, as_str}
+use Rattle.json_base.specs.Events.{items_len}
 use Rattle.json_base.specs.declared.path.Member.TheVariants as member
 use Rattle.json_base.specs.declared.path.Step.{Step}
 use Rattle.json_base.specs.declared.fault.JsonFaultKind.{JsonFaultKind}

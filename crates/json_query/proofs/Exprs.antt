@@ -10,7 +10,7 @@ use Rattle.query.specs.Resolved.{renamed}
 use Rattle.query.specs.Tree.{Tree, op, trees, tree_of}
 use Rattle.query.proofs.TreeLemmas.{tree_of-Op}
 use Rattle.query.proofs.ResolveLemmas.{all_renamed-trees}
-use Rattle.serde_json.specs.Data.{Data, Items, no_items, item}
+use Rattle.json_base.specs.Data.{Data, Items, no_items, item}
 use Rattle.json_base.specs.JsonMember.{ReadsEach}
 use Rattle.json_query.specs.QueryExpr.{IsOperator, ReadsExpr, ReadsAll, named_tree}
 

@@ -5,9 +5,9 @@ use Rattle.std.specs.declared.cmp.Ordering.{Ordering}
 use Rattle.std.specs.declared.cmp.Ordering.TheVariants.{Less, Equal, Greater}
 use Rattle.query.specs.declared.expr.Op.{Op}
 use Rattle.query.specs.declared.expr.Op.TheVariants as op
-use Rattle.serde_json.specs.Data as data'
-use Rattle.serde_json.specs.Data.{Data, Items, no_items, item, Members, no_members, member, depth, items_depth, members_depth}
-use Rattle.serde_json.specs.Find.{get_item, get_member, as_array, as_object}
+use Rattle.json_base.specs.Data as data'
+use Rattle.json_base.specs.Data.{Data, Items, no_items, item, Members, no_members, member, depth, items_depth, members_depth}
+use Rattle.json_base.specs.Find.{get_item, get_member, as_array, as_object}
 use Rattle.json_base.specs.declared.path.Member.{Member}
 use Rattle.json_base.specs.declared.path.Member.TheVariants as member
 use Rattle.json_base.specs.JsonMember.{member_of}

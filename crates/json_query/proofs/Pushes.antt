@@ -1,9 +1,9 @@
 -- Lists of what is read, as they grow.
 use Rattle.std.proofs.Common.{◌≡◌, ◌∙◌, ℕ, ◌+◌, ◌<◌, List, [], ◌∷◌, ◌++◌, length, get_or, map, ap, sym, subst}
 use Rattle.std.proofs.lemmas.List.{map-append}
-use Rattle.serde_json.specs.Data.{Data}
-use Rattle.serde_json.specs.View.{view, items_view}
-use Rattle.serde_json.specs.declared.value.Value.{Value}
+use Rattle.json_base.specs.Data.{Data}
+use Rattle.json_base.specs.View.{view, items_view}
+use Rattle.json_base.specs.Value.{Value}
 use Rattle.json_base.specs.JsonMember.{ReadsFirst}
 use Rattle.json_base.proofs.JsonItems.{each_pushed}
 

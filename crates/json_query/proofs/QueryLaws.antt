@@ -4,9 +4,9 @@ use Rattle.query.specs.declared.expr.Agg.{Agg}
 use Rattle.query.specs.declared.expr.Agg.TheVariants.{Rows, Count, Sum, Least, Greatest}
 use Rattle.query.specs.QueryShape.{QueryShape}
 use Rattle.query.specs.Tree.{Tree}
-use Rattle.serde_json.specs.Data.{Data, Items}
-use Rattle.serde_json.specs.Find.{as_array, as_null, as_object, as_str}
-use Rattle.serde_json.specs.Events.{items_len}
+use Rattle.json_base.specs.Data.{Data, Items}
+use Rattle.json_base.specs.Find.{as_array, as_null, as_object, as_str}
+use Rattle.json_base.specs.Events.{items_len}
 use Rattle.json_base.specs.declared.path.Member.{Member}
 use Rattle.json_base.specs.declared.path.Member.TheVariants as member
 use Rattle.json_base.specs.declared.path.Step.{Step}

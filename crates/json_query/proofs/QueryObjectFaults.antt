@@ -3,17 +3,17 @@ use Rattle.std.proofs.Common.{◌≡◌, ◌≢◌, ◌∙◌, ℕ, ◌<◌, Lis
 use Rattle.query.specs.declared.expr.Agg.{Agg}
 use Rattle.query.specs.declared.expr.Agg.TheVariants.{Rows, Count, Sum, Least, Greatest}
 use Rattle.query.specs.Tree.{Tree}
-use Rattle.serde_json.specs.Data.{Data, Items}
-use Rattle.serde_json.specs.Find.{as_array, as_null, as_object, as_str}
-use Rattle.serde_json.specs.Events.{items_len}
-use Rattle.serde_json.specs.Read.{read}
-use Rattle.serde_json.proofs.Views.{items_len-items_view}
+use Rattle.json_base.specs.Data.{Data, Items}
+use Rattle.json_base.specs.Find.{as_array, as_null, as_object, as_str}
+use Rattle.json_base.specs.Events.{items_len}
+use Rattle.json_base.specs.Read.{read}
+use Rattle.json_base.proofs.Views.{items_len-items_view}
 use Rattle.json_base.specs.declared.path.Member.{Member}
 use Rattle.json_base.specs.declared.path.Member.TheVariants as member
 use Rattle.json_base.specs.declared.path.Step.TheVariants as step
 use Rattle.json_base.specs.declared.fault.JsonFault.{JsonFault}
 use Rattle.json_base.specs.declared.fault.JsonFaultKind.TheVariants.{WrongMember}
-use Rattle.json_base.specs.JsonFault.{IsFault, IsUnder, Tells}
+use Rattle.json_base.specs.FaultAt.{IsFault, IsUnder, Tells}
 use Rattle.json_base.specs.JsonMember.{NoDocument, member_of, Unlike, unlike, MemberFault, EachFault, ReadsEach}
 use Rattle.json_base.proofs.JsonTells.{tells_at, tells_as, tells_under, tells_wants, tells_unlike}
 use Rattle.json_query.specs.QueryDocument.{agg_name, ReadsFilter, items_or_none, ReadsList}

@@ -4,9 +4,9 @@ use Rattle.query.specs.declared.expr.Agg.{Agg}
 use Rattle.query.specs.declared.expr.Agg.TheVariants.{Rows, Count, Sum, Least, Greatest}
 use Rattle.query.specs.QueryShape.{QueryShape}
 use Rattle.query.specs.Tree.{Tree}
-use Rattle.serde_json.specs.Data.{Data, Items, no_items}
-use Rattle.serde_json.specs.Find.{as_array, as_str}
-use Rattle.serde_json.specs.Read.{read}
+use Rattle.json_base.specs.Data.{Data, Items, no_items}
+use Rattle.json_base.specs.Find.{as_array, as_str}
+use Rattle.json_base.specs.Read.{read}
 use Rattle.json_base.specs.JsonMember.{IsObject, member_of, is_without, ReadsEach}
 use Rattle.json_base.specs.declared.path.Member.{Member}
 use Rattle.json_base.specs.declared.path.Member.TheVariants as member

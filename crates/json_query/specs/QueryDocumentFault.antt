@@ -1,9 +1,9 @@
 -- What can be wrong with a query.
 use Rattle.std.specs.Prelude.{◌≡◌, ◌≢◌, ℕ, ◌<◌, List, [], ◌∷◌, Some, None, IsUtf8}
-use Rattle.serde_json.specs.Data.{Data, Items}
-use Rattle.serde_json.specs.Find.{as_null, as_array, as_object, as_str}
-use Rattle.serde_json.specs.Events.{items_len}
-use Rattle.serde_json.specs.Read.{read}
+use Rattle.json_base.specs.Data.{Data, Items}
+use Rattle.json_base.specs.Find.{as_null, as_array, as_object, as_str}
+use Rattle.json_base.specs.Events.{items_len}
+use Rattle.json_base.specs.Read.{read}
 use Rattle.json_base.specs.JsonMember.{NoDocument, member_of, Unlike, MemberFault, EachFault}
 use Rattle.json_base.specs.declared.path.Member.{Member}
 use Rattle.json_base.specs.declared.path.Member.TheVariants as member

@@ -6,9 +6,9 @@ use Rattle.query.specs.declared.expr.Op.{Op}
 use Rattle.query.specs.declared.expr.Expr.{Expr}
 use Rattle.query.specs.Resolved.{renamed}
 use Rattle.query.specs.Tree.{Tree, column, int, text, op, Trees, none, one, tree_of}
-use Rattle.serde_json.specs.Data.{Data, Items, no_items, item}
-use Rattle.serde_json.specs.Find.{as_array, as_str}
-use Rattle.serde_json.specs.Events.{items_len}
+use Rattle.json_base.specs.Data.{Data, Items, no_items, item}
+use Rattle.json_base.specs.Find.{as_array, as_str}
+use Rattle.json_base.specs.Events.{items_len}
 use Rattle.json_base.specs.JsonMember.{member_of}
 use Rattle.json_base.specs.declared.path.Member.{Member}
 use Rattle.json_base.specs.declared.path.Member.TheVariants as member

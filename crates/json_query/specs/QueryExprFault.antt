@@ -1,9 +1,9 @@
 -- What can be wrong with an expression's object.
 use Rattle.std.specs.Prelude.{◌≡◌, ◌≢◌, ℕ, List, [], ◌∷◌, Some, None, option_and_then}
 use Rattle.query.specs.declared.expr.Op.{Op}
-use Rattle.serde_json.specs.Data.{Data, Items}
-use Rattle.serde_json.specs.Find.{get_item, as_array, as_str}
-use Rattle.serde_json.specs.Events.{items_len}
+use Rattle.json_base.specs.Data.{Data, Items}
+use Rattle.json_base.specs.Find.{get_item, as_array, as_str}
+use Rattle.json_base.specs.Events.{items_len}
 use Rattle.json_base.specs.JsonMember.{member_of, Unlike, MemberFault}
 use Rattle.json_base.specs.declared.path.Member.TheVariants as member
 use Rattle.json_base.specs.declared.path.Step.{Step}

@@ -1,12 +1,12 @@
 -- What an expression's object is, and the names of operators. (JSON: RFC 8259)
 use Rattle.std.specs.Prelude.{ℕ, ℤ, List, codes, Bool, true, false, Option, Some, None, is_some}
 use Rattle.std.specs.Option.{option_or}
-use Rattle.types.specs.declared.int_type.IntType.{IntType}
-use Rattle.types.specs.declared.int_type.Width.TheVariants.{W64}
+use Rattle.arrays.specs.IntType.{IntType}
+use Rattle.arrays.specs.Widths.{W64}
 use Rattle.query.specs.declared.expr.Op.{Op}
 use Rattle.query.specs.declared.expr.Op.TheVariants as op
-use Rattle.types.specs.Kind.{int64}
-use Rattle.serde_json.specs.Data.{Data}
+use Rattle.arrays.specs.Kind.{int64}
+use Rattle.json_base.specs.Data.{Data}
 use Rattle.json_base.specs.JsonMember.{member_of}
 use Rattle.json_base.specs.JsonNumber.{integer_of}
 use Rattle.json_base.specs.declared.path.Member.{Member}

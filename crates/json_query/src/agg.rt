@@ -2,19 +2,18 @@
 
 ghost use Rattle.std.specs.Prelude.{IfOk, IfErr, string_bytes};
 ghost use Rattle.query.specs.Resolved.{renamed_agg};
-ghost use Rattle.serde_json.specs.View.{view};
-ghost use Rattle.json_base.specs.JsonFault.{Tells};
+ghost use Rattle.json_base.specs.View.{view};
+ghost use Rattle.json_base.specs.FaultAt.{Tells};
 ghost use Rattle.json_base.specs.JsonMember.{IsObject, MemberFault, Unlike};
 ghost use Rattle.json_base.specs.declared.path.Member.TheVariants as member;
-ghost use Rattle.serde_json.specs.Find.{as_str};
+ghost use Rattle.json_base.specs.Find.{as_str};
 ghost use Rattle.json_query.specs.QueryDocument.{ReadsAgg};
 ghost use Rattle.json_query.specs.QueryDocumentFault.{AggFault};
 ghost use Rattle.json_query.specs.QueryExpr.{HasText};
 
 use json_base::member::{check_object, owned, text_member, unlike};
-use json_base::{JsonFault, Member};
+use json_base::{JsonFault, Member, Value};
 use query::Agg;
-use serde_json::Value;
 use std::alloc::Global;
 
 /// The name of the column that an aggregate is over.

@@ -1,8 +1,8 @@
 //! The objects of expressions.
 
 ghost use Rattle.std.specs.Prelude.{◌≡◌, Some, IfOk, IfErr, option_and_then, map, string_bytes};
-ghost use Rattle.serde_json.specs.View.{view, items_view};
-ghost use Rattle.json_base.specs.JsonFault.{Tells};
+ghost use Rattle.json_base.specs.View.{view, items_view};
+ghost use Rattle.json_base.specs.FaultAt.{Tells};
 ghost use Rattle.json_base.specs.JsonMember.{EachFault, IsObject, ReadsEach, member_of};
 ghost use Rattle.json_base.specs.declared.path.Member.TheVariants as member;
 ghost use Rattle.json_query.specs.QueryExpr.{HasText, IsOperator, ReadsExpr, named_tree};
@@ -11,9 +11,8 @@ ghost use Rattle.json_query.specs.QueryForm.{form_of, literal_of, op_name};
 
 use crate::form::{Form, form_of, literal, op_of, operand_count};
 use json_base::member::{array_member, check_object, owned, push, required, text_member, unlike};
-use json_base::{JsonFault, JsonFaultKind, Member, Step};
+use json_base::{JsonFault, JsonFaultKind, Member, Step, Value};
 use query::{Expr, Op};
-use serde_json::Value;
 use std::alloc::Global;
 
 /// The name of a column.

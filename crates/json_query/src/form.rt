@@ -2,14 +2,13 @@
 
 ghost use Rattle.std.specs.Prelude.{◌≡◌, ◌≢◌, IfSome, IfNone};
 ghost use Rattle.query.specs.declared.expr.Op as op;
-ghost use Rattle.serde_json.specs.View.{view};
+ghost use Rattle.json_base.specs.View.{view};
 ghost use Rattle.json_query.specs.QueryForm.{form_of, has, literal_of, op_name, operand_count};
 
-use json_base::Member;
+use arrays::{INT64, IntType, Width};
 use json_base::number::integer;
+use json_base::{Member, Value};
 use query::Op;
-use serde_json::Value;
-use types::{INT64, IntType, Width};
 
 const UINT64: IntType = IntType {
     bits: Width::W64,

@@ -2,9 +2,9 @@
 
 ghost use Rattle.std.specs.Prelude.{◌≡◌, ◌≤◌, Some, IfOk, IfErr, length, map, string_bytes};
 ghost use Rattle.query.specs.Resolved.{renamed_agg};
-ghost use Rattle.serde_json.specs.Find.{as_str};
-ghost use Rattle.serde_json.specs.View.{view, items_view};
-ghost use Rattle.json_base.specs.JsonFault.{Tells};
+ghost use Rattle.json_base.specs.Find.{as_str};
+ghost use Rattle.json_base.specs.View.{view, items_view};
+ghost use Rattle.json_base.specs.FaultAt.{Tells};
 ghost use Rattle.json_base.specs.JsonMember.{EachFault, ReadsEach, Unlike, member_of};
 ghost use Rattle.json_base.specs.declared.path.Member.TheVariants as member;
 ghost use Rattle.json_query.specs.QueryDocument.{ReadsAgg, ReadsList, ReadsName, items_or_none};
@@ -13,9 +13,8 @@ ghost use Rattle.json_query.specs.QueryDocumentFault.{AggFault, QueryObjectFault
 use crate::agg::read_agg;
 use arrayvec::ArrayVec;
 use json_base::member::{owned, push, unlike};
-use json_base::{JsonFault, JsonFaultKind, Member, Step};
+use json_base::{JsonFault, JsonFaultKind, Member, Step, Value};
 use query::Agg;
-use serde_json::Value;
 use std::alloc::Global;
 
 /// How many columns make a key at most.

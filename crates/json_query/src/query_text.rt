@@ -1,7 +1,7 @@
 ghost use Rattle.std.specs.Prelude.{Some, IfOk, IfErr, option_map};
 ghost use Rattle.query.specs.Resolved.{named};
-ghost use Rattle.serde_json.specs.View.{view};
-ghost use Rattle.json_base.specs.JsonFault.{Tells};
+ghost use Rattle.json_base.specs.View.{view};
+ghost use Rattle.json_base.specs.FaultAt.{Tells};
 ghost use Rattle.json_query.specs.QueryDocument.{ReadsFilter, ReadsQuery, ReadsQueryText};
 ghost use Rattle.json_query.specs.QueryDocumentFault.{QueryObjectFault, QueryBytesFault};
 ghost use Rattle.json_query.specs.QueryExpr.{named_tree};
@@ -10,9 +10,8 @@ use crate::expr::read_expr;
 use crate::lists::{read_aggs, read_by};
 use json_base::document::parse;
 use json_base::member::check_object;
-use json_base::{JsonFault, Member, Step};
+use json_base::{JsonFault, Member, Step, Value};
 use query::{Expr, QueryText};
-use serde_json::Value;
 use std::alloc::Global;
 
 /// The filter, none where it is absent or null.

@@ -2,12 +2,12 @@
 use Rattle.std.proofs.Common.{◌≡◌, ◌∙◌, ℕ, ℤ, List, Option, Some, None, option_and_then, refl, sym, ap, subst, arith}
 use Rattle.std.proofs.lemmas.Bool.{false≢true}
 use Rattle.std.proofs.lemmas.Option.{slice_get_within}
-use Rattle.types.specs.declared.int_type.IntType.{IntType}
-use Rattle.types.specs.declared.offset_width.OffsetWidth.TheVariants.{Narrow}
+use Rattle.arrays.specs.IntType.{IntType}
+use Rattle.arrays.specs.OffsetWidths.{Narrow}
 use Rattle.arrays.specs.Item.{Item}
-use Rattle.serde_json.specs.Data as data'
-use Rattle.serde_json.specs.Data.{Data, Items, item, no_items}
-use Rattle.serde_json.specs.Find.{get_item, as_array, as_object}
+use Rattle.json_base.specs.Data as data'
+use Rattle.json_base.specs.Data.{Data, Items, item, no_items}
+use Rattle.json_base.specs.Find.{get_item, as_array, as_object}
 use Rattle.json_base.specs.declared.path.Member.TheVariants as member
 use Rattle.json_base.specs.declared.path.Step.{Step}
 use Rattle.json_base.specs.declared.fault.JsonFaultKind.{JsonFaultKind}

@@ -1,12 +1,12 @@
 -- The text of one field: why its faults stand, and what follows of it.
 use Rattle.std.proofs.Common.{◌≡◌, ℕ, List, Some, IsUtf8, subst}
 use Rattle.arrays.specs.Shape.{FieldShape}
-use Rattle.serde_json.specs.Data.{Data}
-use Rattle.serde_json.specs.Read.{read}
+use Rattle.json_base.specs.Data.{Data}
+use Rattle.json_base.specs.Read.{read}
 use Rattle.json_base.specs.declared.path.Step.{Step}
 use Rattle.json_base.specs.declared.fault.JsonFault.{JsonFault}
 use Rattle.json_base.specs.declared.fault.JsonFaultKind.{JsonFaultKind}
-use Rattle.json_base.specs.JsonFault.{Tells}
+use Rattle.json_base.specs.FaultAt.{Tells}
 use Rattle.json_base.specs.JsonMember.{NoDocument, no_document}
 use Rattle.json_base.proofs.JsonTells.{tells_as, tells_wants}
 use Rattle.json_read.specs.JsonField.{FieldTextFault, IsFieldText, bad_field_text, no_field_text}

@@ -6,11 +6,11 @@ use Rattle.std.proofs.lemmas.Option.{slice_get-map, slice_get_within, slice_get_
 use Rattle.arrays.specs.Kind as kind
 use Rattle.arrays.specs.Kind.{kind_of, Kind}
 use Rattle.arrays.specs.Shape.{FieldShape, field_of, fields_of, kind_of_field}
-use Rattle.types.specs.declared.data_type.Field.{Field, out-Field}
-use Rattle.types.proofs.ShapeLemmas.{kind_of_field-field_of}
-use Rattle.serde_json.specs.Find.{get_item, as_array, as_object}
-use Rattle.serde_json.specs.View.{view, items_view}
-use Rattle.serde_json.specs.declared.value.Value.{Value}
+use Rattle.arrays.specs.Field.{Field, out-Field}
+use Rattle.arrays.proofs.ShapeLemmas.{kind_of_field-field_of}
+use Rattle.json_base.specs.Find.{get_item, as_array, as_object}
+use Rattle.json_base.specs.View.{view, items_view}
+use Rattle.json_base.specs.Value.{Value}
 use Rattle.json_base.specs.declared.path.Member.TheVariants as member
 use Rattle.json_base.specs.declared.path.Step.TheVariants as step
 use Rattle.json_base.specs.JsonMember.{member_of, Unlike, MemberFault, ListFault}
@@ -18,10 +18,10 @@ use Rattle.json_base.specs.JsonNumber.{count_of}
 use Rattle.json_base.proofs.JsonItems.{slice_get-front, slice_get-last}
 use Rattle.json_read.proofs.JsonColumnFaults.{at_index}
 use Rattle.arrays.specs.Seen.{Seen}
-use Rattle.serde_json.specs.Data.{Data, Items}
+use Rattle.json_base.specs.Data.{Data, Items}
 use Rattle.json_base.specs.declared.fault.JsonFault.{JsonFault}
 use Rattle.json_base.specs.declared.fault.JsonFaultKind.TheVariants.{UnsupportedType}
-use Rattle.json_base.specs.JsonFault.{Tells, IsFault, IsUnder}
+use Rattle.json_base.specs.FaultAt.{Tells, IsFault, IsUnder}
 use Rattle.json_read.specs.JsonBatch.{HoldsColumn, HoldsTop, HoldsColumns, IsCatalogOf}
 use Rattle.json_read.specs.JsonCatalog.{Coding}
 use Rattle.json_read.specs.JsonCodes.{ReadsCodes}

@@ -9,12 +9,12 @@ use Rattle.std.specs.declared.alloc.Global.{Global}
 use Rattle.std.specs.declared.sync.Arc.{Arc}
 use Rattle.arrays.specs.Seen.{Seen}
 use Rattle.std.proofs.lemmas.Option.{slice_get_within, slice_get-get_or, slice_get-map}
-use Rattle.serde_json.specs.Data.{Data, Items, no_items, item}
-use Rattle.serde_json.specs.Events.{items_len}
-use Rattle.serde_json.specs.Find.{get_item, as_array, as_object}
-use Rattle.serde_json.specs.View.{items_view}
-use Rattle.serde_json.specs.declared.value.Value.{Value}
-use Rattle.serde_json.proofs.Views.{items_len-items_view}
+use Rattle.json_base.specs.Data.{Data, Items, no_items, item}
+use Rattle.json_base.specs.Events.{items_len}
+use Rattle.json_base.specs.Find.{get_item, as_array, as_object}
+use Rattle.json_base.specs.View.{items_view}
+use Rattle.json_base.specs.Value.{Value}
+use Rattle.json_base.proofs.Views.{items_len-items_view}
 use Rattle.json_base.specs.declared.path.Member.TheVariants as member
 use Rattle.json_base.specs.declared.path.Step.{Step}
 use Rattle.json_base.specs.declared.path.Step.TheVariants as step
@@ -27,7 +27,7 @@ use Rattle.json_base.specs.declared.fault.JsonFaultKind.{JsonFaultKind}
 use Rattle.json_base.specs.declared.fault.JsonFaultKind.TheVariants.{NoDictionary, DictionaryTwice}
 use Rattle.json_read.specs.CatalogParts.{HasEncodings, HasSome, IsNoDictionary, IsCoding, IsCodingAt, AreCodings, AreNumbered, AreWordsOf, ids_of}
 use Rattle.json_read.specs.PlaceParts.{IsNumberPlace, IsBefore, ArePlaces, place_at}
-use Rattle.json_base.specs.JsonFault.{IsFault, IsUnder, Tells}
+use Rattle.json_base.specs.FaultAt.{IsFault, IsUnder, Tells}
 use Rattle.json_base.specs.JsonMember.{member_of, IsObject, Unlike, MemberFault, EachFault, ReadsEach, ReadsFirst}
 use Rattle.json_read.specs.JsonEncoding.{Encoding, HasEncoding, id_of}
 use Rattle.json_read.specs.JsonDictionaryFault.{EntryFault}

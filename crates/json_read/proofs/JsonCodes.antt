@@ -6,21 +6,21 @@ use Rattle.std.proofs.lemmas.Int.{ints}
 use Rattle.std.proofs.lemmas.List.{length-map, map-append}
 use Rattle.std.proofs.lemmas.List.Elements.{All-push}
 use Rattle.std.proofs.lemmas.Option.{slice_get-get_or, slice_get_past}
-use Rattle.types.specs.declared.int_type.IntType.{IntType}
-use Rattle.layout.specs.declared.fault.LayoutFault.TheVariants as layout
+use Rattle.arrays.specs.IntType.{IntType}
+use Rattle.arrays.specs.LayoutFaults as layout
 use Rattle.arrays.specs.Column.{Column}
 use Rattle.arrays.specs.Dictionary.{is_code, looked_up}
 use Rattle.arrays.specs.Item.{Item, null, int}
 use Rattle.arrays.specs.Kind.{int32}
 use Rattle.arrays.specs.Number.{IsOfType, natural}
-use Rattle.serde_json.specs.Data.{Data, Items}
-use Rattle.serde_json.specs.Find.{get_item}
+use Rattle.json_base.specs.Data.{Data, Items}
+use Rattle.json_base.specs.Find.{get_item}
 use Rattle.json_base.specs.declared.path.Member.TheVariants as member
 use Rattle.json_base.specs.declared.path.Step.TheVariants as step
 use Rattle.json_base.specs.declared.fault.JsonFault.{JsonFault}
 use Rattle.json_base.specs.declared.fault.JsonFaultKind.TheVariants.{WrongMember, BadNumber, Layout}
 use Rattle.json_read.specs.CodeParts.{HoldsCodes}
-use Rattle.json_base.specs.JsonFault.{IsFault, Tells}
+use Rattle.json_base.specs.FaultAt.{IsFault, Tells}
 use Rattle.json_base.specs.JsonNumber.{integer_of}
 use Rattle.json_read.specs.JsonColumn.{flagged_at, ReadsSlots, HasSlots}
 use Rattle.json_read.specs.JsonColumnFault.{NoSlots}

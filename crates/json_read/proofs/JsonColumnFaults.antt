@@ -1,10 +1,10 @@
 -- Why a fault of a column stands.
 use Rattle.std.proofs.Common.{◌≡◌, ◌≢◌, ◌∙◌, ℕ, ◌<◌, false, get_or, length, List, [], ◌∷◌, Option, Some, None, option_and_then, option_map, IfSome, sym, ap, subst}
-use Rattle.serde_json.specs.Data.{Data, Items}
-use Rattle.serde_json.specs.Find.{get_item, as_array, as_null, as_object}
-use Rattle.serde_json.proofs.Views.{items_len-items_view, get_item_within}
-use Rattle.serde_json.specs.View.{view, items_view}
-use Rattle.serde_json.specs.declared.value.Value.{Value}
+use Rattle.json_base.specs.Data.{Data, Items}
+use Rattle.json_base.specs.Find.{get_item, as_array, as_null, as_object}
+use Rattle.json_base.proofs.Views.{items_len-items_view, get_item_within}
+use Rattle.json_base.specs.View.{view, items_view}
+use Rattle.json_base.specs.Value.{Value}
 use Rattle.json_base.specs.declared.path.Member.{Member}
 use Rattle.json_base.specs.declared.path.Member.TheVariants as member
 use Rattle.json_base.specs.declared.path.Step.{Step}
@@ -12,14 +12,14 @@ use Rattle.json_base.specs.declared.path.Step.TheVariants as step
 use Rattle.json_base.specs.declared.fault.JsonFault.{JsonFault}
 use Rattle.json_base.specs.declared.fault.JsonFaultKind.{JsonFaultKind}
 use Rattle.json_base.specs.declared.fault.JsonFaultKind.TheVariants.{WrongMember, CountDiffers}
-use Rattle.json_base.specs.JsonFault.{IsFault, IsUnder, Tells}
+use Rattle.json_base.specs.FaultAt.{IsFault, IsUnder, Tells}
 use Rattle.json_base.specs.JsonMember.{member_of, Unlike, MemberFault, wrong, ListFault, no_array, length_differs}
 use Rattle.json_base.specs.JsonNumber.{count_of}
 use Rattle.arrays.specs.Kind as kind
 use Rattle.arrays.specs.Kind.{Kind}
 use Rattle.arrays.specs.Seen.{Seen}
-use Rattle.types.specs.declared.int_type.IntType.{IntType}
-use Rattle.types.specs.declared.offset_width.OffsetWidth.{OffsetWidth}
+use Rattle.arrays.specs.IntType.{IntType}
+use Rattle.arrays.specs.OffsetWidth.{OffsetWidth}
 use Rattle.json_read.specs.declared.column.Slots.{Slots}
 use Rattle.json_read.specs.SlotParts.{flags_in, values_in}
 use Rattle.json_read.specs.JsonBatch.{HoldsColumn, ReadsColumn}

@@ -1,17 +1,17 @@
 -- Why a fault of a dictionary stands.
 use Rattle.std.proofs.Common.{◌≡◌, ℕ, List, [], ◌∷◌, Some, None, option_and_then}
-use Rattle.types.specs.declared.offset_width.OffsetWidth.TheVariants.{Narrow}
+use Rattle.arrays.specs.OffsetWidths.{Narrow}
 use Rattle.arrays.specs.Seen.{Seen}
 use Rattle.arrays.specs.Kind as kind
-use Rattle.serde_json.specs.Data.{Data, item, no_items}
-use Rattle.serde_json.specs.Find.{as_array, as_object}
+use Rattle.json_base.specs.Data.{Data, item, no_items}
+use Rattle.json_base.specs.Find.{as_array, as_object}
 use Rattle.json_base.specs.declared.path.Member.TheVariants as member
 use Rattle.json_base.specs.declared.path.Step.{Step}
 use Rattle.json_base.specs.declared.path.Step.TheVariants as step
 use Rattle.json_base.specs.declared.fault.JsonFault.{JsonFault}
 use Rattle.json_base.specs.declared.fault.JsonFaultKind.{JsonFaultKind}
 use Rattle.json_base.specs.declared.fault.JsonFaultKind.TheVariants.{WrongMember}
-use Rattle.json_base.specs.JsonFault.{IsFault, IsUnder, Tells}
+use Rattle.json_base.specs.FaultAt.{IsFault, IsUnder, Tells}
 use Rattle.json_base.specs.JsonMember.{IsObject, member_of, Unlike, Missing, MemberFault, ListFault, absent, wrong}
 use Rattle.json_base.specs.JsonNumber.{count_of}
 use Rattle.json_read.specs.JsonSchema.{only_item}

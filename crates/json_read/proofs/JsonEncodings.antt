@@ -1,11 +1,11 @@
 -- Why a fault of an encoding stands.
 use Rattle.std.proofs.Common.{◌≡◌, ◌∷◌, Some, None}
-use Rattle.serde_json.specs.Data.{Data}
-use Rattle.serde_json.specs.Find.{as_null, as_object}
+use Rattle.json_base.specs.Data.{Data}
+use Rattle.json_base.specs.Find.{as_null, as_object}
 use Rattle.json_base.specs.declared.path.Member.TheVariants as member
 use Rattle.json_base.specs.declared.path.Step.TheVariants as step
 use Rattle.json_base.specs.declared.fault.JsonFault.{JsonFault}
-use Rattle.json_base.specs.JsonFault.{IsUnder, Tells}
+use Rattle.json_base.specs.FaultAt.{IsUnder, Tells}
 use Rattle.json_base.specs.JsonMember.{IsObject, member_of, Unlike, Missing, MemberFault, absent, wrong}
 use Rattle.json_read.specs.JsonEncoding.{id_of}
 use Rattle.json_read.specs.JsonEncodingFault.{EncodingFault, bad_id, bad_index, EncodedFault, no_encoding_object, bad_encoding}

@@ -1,20 +1,20 @@
 -- Why a fault that is reported stands: one lemma for each way in which it came about.
 use Rattle.std.proofs.Common.{◌≡◌, ◌≢◌, ◌∙◌, ℕ, zero, suc, length, get_or, List, [], ◌∷◌, Option, Some, None, option_and_then, false, codes, refl, sym, ap, subst, arith}
-use Rattle.types.specs.declared.data_type.DataType.{DataType}
-use Rattle.types.specs.declared.offset_width.OffsetWidth.{OffsetWidth}
+use Rattle.arrays.specs.DataType.{DataType}
+use Rattle.arrays.specs.OffsetWidth.{OffsetWidth}
 use Rattle.arrays.specs.Shape as shape
 use Rattle.arrays.specs.Shape.{Shape, shape_of}
-use Rattle.serde_json.specs.Data.{Data, Num}
-use Rattle.serde_json.specs.Find.{as_array, as_bool, as_null, as_number, as_object, as_str}
-use Rattle.serde_json.specs.View.{view, items_view}
-use Rattle.serde_json.specs.declared.value.Value.{Value}
+use Rattle.json_base.specs.Data.{Data, Num}
+use Rattle.json_base.specs.Find.{as_array, as_bool, as_null, as_number, as_object, as_str}
+use Rattle.json_base.specs.View.{view, items_view}
+use Rattle.json_base.specs.Value.{Value}
 use Rattle.json_base.specs.declared.path.Member.TheVariants as member
 use Rattle.json_base.specs.declared.path.Step.{Step}
 use Rattle.json_base.specs.declared.path.Step.TheVariants as step
 use Rattle.json_base.specs.declared.fault.JsonFault.{JsonFault}
 use Rattle.json_base.specs.declared.fault.JsonFaultKind.{JsonFaultKind}
 use Rattle.json_base.specs.declared.fault.JsonFaultKind.TheVariants.{WrongMember, UnsupportedType}
-use Rattle.json_base.specs.JsonFault.{IsFault, IsUnder, Tells}
+use Rattle.json_base.specs.FaultAt.{IsFault, IsUnder, Tells}
 use Rattle.json_base.specs.JsonMember.{member_of, IsObject, Unlike, unlike, Missing, MemberFault, absent, wrong}
 use Rattle.json_base.specs.JsonNumber.{width_of}
 use Rattle.json_base.proofs.JsonTells.{tells_at, tells_as, tells_under, tells_wants}

@@ -1,21 +1,21 @@
 -- Why a fault of a schema's fields stands.
 use Rattle.std.proofs.Common.{◌≡◌, ◌≢◌, ◌∙◌, ℕ, ◌+◌, ◌≤◌, nat_lt, List, [], ◌∷◌, ◌++◌, false, Some, option_and_then, codes, string_bytes, sym, ap, subst, arith}
 use Rattle.std.proofs.lemmas.Bool.Decides.{nat_tests}
-use Rattle.types.specs.declared.data_type.DataType.{DataType, fold_out-DataType, map-DataType}
-use Rattle.types.specs.declared.data_type.DataType.TheVariants.{Dict, outs-Dict}
-use Rattle.types.specs.declared.offset_width.OffsetWidth.TheVariants.{Narrow}
+use Rattle.arrays.specs.DataType.{DataType, fold_out-DataType, map-DataType}
+use Rattle.arrays.specs.DataTypes.{Dict, outs-Dict}
+use Rattle.arrays.specs.OffsetWidths.{Narrow}
 use Rattle.std.proofs.lemmas.List.{map-append}
-use Rattle.types.specs.declared.data_type.Field.{Field, out-Field, fold_out-Field}
+use Rattle.arrays.specs.Field.{Field, out-Field, fold_out-Field}
 use Rattle.arrays.specs.Kind.{depth}
 use Rattle.arrays.specs.Shape as shape
 use Rattle.arrays.specs.Shape.{Shape, FieldShape, shape_step, field_step, shape_of, field_of, fields_of, kind_of_field}
-use Rattle.serde_json.specs.Data.{Data, Items}
-use Rattle.serde_json.specs.Find.{as_array, as_bool, as_object, as_str}
+use Rattle.json_base.specs.Data.{Data, Items}
+use Rattle.json_base.specs.Find.{as_array, as_bool, as_object, as_str}
 use Rattle.json_base.specs.declared.path.Member.TheVariants as member
 use Rattle.json_base.specs.declared.path.Step.TheVariants as step
 use Rattle.json_base.specs.declared.fault.JsonFault.{JsonFault}
 use Rattle.json_base.specs.declared.fault.JsonFaultKind.TheVariants.{UnsupportedType, WrongMember}
-use Rattle.json_base.specs.JsonFault.{IsFault, IsUnder, Tells}
+use Rattle.json_base.specs.FaultAt.{IsFault, IsUnder, Tells}
 use Rattle.json_base.specs.JsonMember.{IsObject, member_of, Unlike, Missing, MemberFault, EachFault}
 use Rattle.json_read.specs.EncodingParts.{HasSomeEncoding}
 use Rattle.json_read.specs.JsonEncoding.{id_of}

@@ -7,17 +7,17 @@ use Rattle.arrays.specs.Kind as kind
 use Rattle.arrays.specs.Shape.{FieldShape, kind_of_field}
 use Rattle.arrays.specs.Batch.{Batch}
 use Rattle.arrays.specs.File.{kinds_of}
-use Rattle.serde_json.specs.Data.{Data, Items}
-use Rattle.serde_json.specs.Find.{as_array, as_object}
-use Rattle.serde_json.specs.Read.{read}
-use Rattle.serde_json.specs.View.{view, items_view}
-use Rattle.serde_json.specs.declared.value.Value.{Value}
+use Rattle.json_base.specs.Data.{Data, Items}
+use Rattle.json_base.specs.Find.{as_array, as_object}
+use Rattle.json_base.specs.Read.{read}
+use Rattle.json_base.specs.View.{view, items_view}
+use Rattle.json_base.specs.Value.{Value}
 use Rattle.json_base.specs.declared.path.Member.TheVariants as member
 use Rattle.json_base.specs.declared.path.Step.{Step}
 use Rattle.json_base.specs.declared.path.Step.TheVariants as step
 use Rattle.json_base.specs.declared.fault.JsonFault.{JsonFault}
 use Rattle.json_base.specs.declared.fault.JsonFaultKind.{JsonFaultKind}
-use Rattle.json_base.specs.JsonFault.{Tells, IsUnder}
+use Rattle.json_base.specs.FaultAt.{Tells, IsUnder}
 use Rattle.json_base.specs.JsonMember.{NoDocument, no_document, member_of, Unlike, Missing, MemberFault, absent, wrong, EachFault, ReadsFirst, ReadsEach}
 use Rattle.json_read.specs.CatalogParts.{HasEncodings}
 use Rattle.json_read.specs.EncodingParts.{AreEncoded}

@@ -5,10 +5,10 @@ use Rattle.std.proofs.lemmas.Grind.{flat_map-append}
 use Rattle.std.proofs.lemmas.List.FromFn.{fill_by_all, get_or-map-range_with_len, length-map-range_with_len}
 use Rattle.std.proofs.lemmas.List.{append-nil}
 use Rattle.std.proofs.lemmas.Option.{slice_get-get_or}
-use Rattle.layout.specs.declared.fault.LayoutFault.{LayoutFault}
-use Rattle.layout.specs.declared.fault.LayoutFault.TheVariants as layout
-use Rattle.types.specs.declared.offset_width.OffsetWidth.{OffsetWidth}
-use Rattle.types.specs.OffsetWidth.{offset_type}
+use Rattle.arrays.specs.LayoutFault.{LayoutFault}
+use Rattle.arrays.specs.LayoutFaults as layout
+use Rattle.arrays.specs.OffsetWidth.{OffsetWidth}
+use Rattle.arrays.specs.OffsetSize.{offset_type}
 use Rattle.arrays.specs.Fault.{own_fault, is_validity_short}
 use Rattle.arrays.specs.FromParts.{list_parts, show_lists}
 use Rattle.arrays.specs.Item as column
@@ -22,14 +22,14 @@ use Rattle.arrays.specs.Packed.{IsBufferOf}
 use Rattle.arrays.specs.Reading.{read_parts}
 use Rattle.arrays.specs.Seen.{Seen}
 use Rattle.arrays.specs.Shown.{kept}
-use Rattle.types.specs.First.{first}
+use Rattle.arrays.specs.First.{first}
 use Rattle.arrays.proofs.ListArrays.{show_read_lists}
 use Rattle.arrays.proofs.ValidityLemmas.{IsKept, kept_buffer}
-use Rattle.serde_json.specs.Data.{Data, Items, no_items, item}
-use Rattle.serde_json.specs.Find.{as_array, as_object}
-use Rattle.serde_json.specs.View.{view, items_view}
-use Rattle.serde_json.specs.declared.value.Value.{Value}
-use Rattle.serde_json.proofs.Views.{items_len-items_view}
+use Rattle.json_base.specs.Data.{Data, Items, no_items, item}
+use Rattle.json_base.specs.Find.{as_array, as_object}
+use Rattle.json_base.specs.View.{view, items_view}
+use Rattle.json_base.specs.Value.{Value}
+use Rattle.json_base.proofs.Views.{items_len-items_view}
 use Rattle.json_base.specs.declared.path.Member.TheVariants as member
 use Rattle.json_base.specs.declared.path.Step.{Step}
 use Rattle.json_base.specs.declared.path.Step.TheVariants as step
@@ -37,7 +37,7 @@ use Rattle.json_base.specs.declared.fault.JsonFault.{JsonFault}
 use Rattle.json_base.specs.declared.fault.JsonFaultKind.{JsonFaultKind}
 use Rattle.json_base.specs.declared.fault.JsonFaultKind.TheVariants.{WrongMember, BadOffset, CountDiffers, Layout}
 use Rattle.json_read.specs.declared.list.ListParts.{ListParts}
-use Rattle.json_base.specs.JsonFault.{Tells, IsFault, IsUnder, no_memory}
+use Rattle.json_base.specs.FaultAt.{Tells, IsFault, IsUnder, no_memory}
 use Rattle.json_base.specs.JsonMember as at
 use Rattle.json_base.specs.JsonMember.{member_of, Unlike, unlike, MemberFault, ListFault, EachFault, ReadsEach}
 use Rattle.json_base.specs.JsonNumber.{integer_of, count_of, flag_of}

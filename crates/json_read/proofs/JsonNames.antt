@@ -1,9 +1,9 @@
 -- What a member or a name says of an object.
 use Rattle.std.proofs.Common.{◌≡◌, ◌≢◌, ◌∙◌, ℕ, ◌-◌, List, length, get_or, Some, option_and_then, refl, sym, ap, arith}
-use Rattle.types.specs.declared.offset_width.OffsetWidth.{OffsetWidth}
-use Rattle.types.specs.declared.offset_width.OffsetWidth.TheVariants.{Narrow, Wide}
+use Rattle.arrays.specs.OffsetWidth.{OffsetWidth}
+use Rattle.arrays.specs.OffsetWidths.{Narrow, Wide}
 use Rattle.arrays.specs.Shape.{Shape}
-use Rattle.serde_json.specs.Data.{Data}
+use Rattle.json_base.specs.Data.{Data}
 use Rattle.json_read.specs.JsonSchema.{type_name, texts_name, lists_name, NamesLists, HasType}
 
 -- what holds at both widths

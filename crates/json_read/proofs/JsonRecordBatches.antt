@@ -7,16 +7,16 @@ use Rattle.std.proofs.lemmas.Bool.Decides.{nat_tests}
 use Rattle.std.proofs.lemmas.Bool.{eq-eqb}
 use Rattle.arrays.specs.Kind.{same_kind}
 use Rattle.arrays.specs.Shape.{FieldShape, fields_of, kind_of_field}
-use Rattle.types.specs.declared.data_type.Field.{Field}
+use Rattle.arrays.specs.Field.{Field}
 use Rattle.arrays.specs.Seen.{Seen}
 use Rattle.arrays.specs.Batch.{Batch, batch_fault, differing_type, differing_length}
 use Rattle.arrays.proofs.ListArrays.{same_kind-refl}
-use Rattle.serde_json.specs.Data.{Data, Items}
-use Rattle.serde_json.specs.Find.{as_array}
-use Rattle.serde_json.specs.Events.{items_len}
-use Rattle.serde_json.specs.View.{items_view}
-use Rattle.serde_json.specs.declared.value.Value.{Value}
-use Rattle.serde_json.proofs.Views.{items_len-items_view}
+use Rattle.json_base.specs.Data.{Data, Items}
+use Rattle.json_base.specs.Find.{as_array}
+use Rattle.json_base.specs.Events.{items_len}
+use Rattle.json_base.specs.View.{items_view}
+use Rattle.json_base.specs.Value.{Value}
+use Rattle.json_base.proofs.Views.{items_len-items_view}
 use Rattle.json_base.specs.declared.path.Member.TheVariants as member
 use Rattle.json_base.specs.JsonMember.{member_of}
 use Rattle.json_base.specs.JsonNumber.{count_of}

@@ -6,7 +6,7 @@ use Rattle.std.proofs.lemmas.Option.{slice_get_within}
 use Rattle.arrays.specs.Kind.{ends_in_dict}
 use Rattle.arrays.specs.Shape.{Shape, FieldShape, int, boolean, texts, lists, dict, field, kind_of_field, kind_of_shape}
 use Rattle.arrays.specs.Schema.{schema_fault, is_deep, holds_dict}
-use Rattle.serde_json.specs.Data.{Data, Items}
+use Rattle.json_base.specs.Data.{Data, Items}
 use Rattle.json_base.specs.JsonMember.{ReadsEach}
 use Rattle.json_base.proofs.JsonItems.{get_item_some}
 use Rattle.json_read.specs.JsonSchema.{IsFieldOf, HasChildren}

@@ -1,22 +1,22 @@
 -- The slots of a column added one after another.
 use Rattle.std.proofs.Common.{◌≡◌, ◌∙◌, ℕ, ◌+◌, ℤ, Bool, List, [], ◌∷◌, ◌++◌, Option, Some, None, true, false, option_map, refl, sym, ap, subst, arith, length-append, below_more}
 use Rattle.std.specs.List.{slice_get}
-use Rattle.types.specs.declared.int_type.IntType.{IntType}
-use Rattle.types.specs.declared.offset_width.OffsetWidth.{OffsetWidth}
-use Rattle.types.specs.OffsetWidth as offsets
+use Rattle.arrays.specs.IntType.{IntType}
+use Rattle.arrays.specs.OffsetWidth.{OffsetWidth}
+use Rattle.arrays.specs.OffsetSize as offsets
 use Rattle.arrays.specs.Item as column
 use Rattle.arrays.specs.Item.{Item}
 use Rattle.arrays.specs.Lengths.{text_bytes}
-use Rattle.serde_json.specs.Data.{Data, Items}
-use Rattle.serde_json.specs.Find.{get_item, as_str}
-use Rattle.layout.specs.declared.fault.LayoutFault.TheVariants as layout
+use Rattle.json_base.specs.Data.{Data, Items}
+use Rattle.json_base.specs.Find.{get_item, as_str}
+use Rattle.arrays.specs.LayoutFaults as layout
 use Rattle.json_base.specs.declared.path.Member.TheVariants as member
 use Rattle.json_base.specs.declared.path.Step.TheVariants as step
 use Rattle.json_base.specs.declared.fault.JsonFault.{JsonFault}
 use Rattle.json_base.specs.declared.fault.JsonFaultKind.TheVariants.{WrongMember, BadNumber, Layout}
 use Rattle.json_read.specs.declared.column.Unfit.{Unfit}
 use Rattle.json_read.specs.declared.column.Unfit.TheVariants as unfit
-use Rattle.json_base.specs.JsonFault.{IsFault, Tells}
+use Rattle.json_base.specs.FaultAt.{IsFault, Tells}
 use Rattle.json_base.specs.JsonNumber.{integer_of, flag_of}
 use Rattle.json_read.specs.JsonColumn.{Spelling, numbers, truths, texts, flagged_at, slot_of, ReadsSlots}
 use Rattle.json_read.specs.JsonColumnFault.{SlotsFault, no_flag, no_value, too_long}

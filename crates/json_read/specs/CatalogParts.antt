@@ -5,12 +5,12 @@ use Rattle.std.specs.BTreeMap.{BTreeMap}
 use Rattle.std.specs.declared.alloc.Global.{Global}
 use Rattle.std.specs.declared.sync.Arc.{Arc}
 use Rattle.arrays.specs.Seen.{Seen}
-use Rattle.serde_json.specs.Data.{Data, Items, no_items, item}
+use Rattle.json_base.specs.Data.{Data, Items, no_items, item}
 use Rattle.json_read.specs.JsonDictionary.{ReadsEntry}
 use Rattle.json_read.specs.JsonEncoding.{Encoding, HasEncoding, id_of}
 use Rattle.json_read.specs.JsonCatalog as catalog
 use Rattle.json_read.specs.JsonCatalog.{HasDictionary, HasId, listed_fields}
-use Rattle.json_base.specs.JsonFault.{IsFault}
+use Rattle.json_base.specs.FaultAt.{IsFault}
 use Rattle.json_base.specs.JsonMember.{member_of, ReadsEach}
 use Rattle.json_read.specs.declared.catalog.Coding.{Coding}
 use Rattle.json_read.specs.declared.place.Place.{Place}

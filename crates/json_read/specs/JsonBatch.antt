@@ -4,9 +4,9 @@ use Rattle.arrays.specs.Kind.{Kind, int, boolean, texts, lists, dict}
 use Rattle.arrays.specs.Item.{Item}
 use Rattle.arrays.specs.Shape.{FieldShape, kind_of_field}
 use Rattle.arrays.specs.Seen.{Seen}
-use Rattle.serde_json.specs.Data.{Data, Items}
-use Rattle.serde_json.specs.Find.{get_item, as_array}
-use Rattle.serde_json.specs.Events.{items_len}
+use Rattle.json_base.specs.Data.{Data, Items}
+use Rattle.json_base.specs.Find.{get_item, as_array}
+use Rattle.json_base.specs.Events.{items_len}
 use Rattle.json_base.specs.JsonNumber.{count_of}
 use Rattle.json_base.specs.JsonMember.{member_of}
 use Rattle.json_read.specs.JsonColumn.{ReadsPlain, numbers, truths, texts as texts_spelled}

@@ -1,7 +1,7 @@
 -- What can be wrong with the dictionaries that the fields of a file name.
 use Rattle.std.specs.Prelude.{◌≡◌, ◌≢◌, ℕ, ◌<◌, ℤ, List, [], ◌∷◌, slice_get, Option, Some, option_and_then}
-use Rattle.serde_json.specs.Data.{Data, Items}
-use Rattle.serde_json.specs.Find.{get_item, as_array, as_object}
+use Rattle.json_base.specs.Data.{Data, Items}
+use Rattle.json_base.specs.Find.{get_item, as_array, as_object}
 use Rattle.json_base.specs.JsonMember.{member_of, Unlike, MemberFault, EachFault}
 use Rattle.json_read.specs.JsonEncoding.{Encoding, HasEncoding, id_of}
 use Rattle.json_read.specs.JsonEncodingFault.{EncodedFault}

@@ -1,8 +1,8 @@
 -- Dictionary-encoded columns. (Arrow integration testing, "JSON test data format", FieldData; Arrow columnar format, "Dictionary-encoded layout")
 use Rattle.std.specs.Prelude.{ℕ, ℤ, pos, negsuc, List, slice_get, Option, None, option_and_then}
-use Rattle.types.specs.declared.int_type.IntType.{IntType}
+use Rattle.arrays.specs.IntType.{IntType}
 use Rattle.arrays.specs.Item.{Item}
-use Rattle.serde_json.specs.Data.{Data}
+use Rattle.json_base.specs.Data.{Data}
 use Rattle.json_base.specs.JsonNumber.{integer_of}
 use Rattle.json_read.specs.JsonColumn.{Spelling, ReadsPlain}
 use Rattle.json_base.specs.declared.fault.JsonFaultKind.TheVariants.{BadNumber}

@@ -1,10 +1,10 @@
 -- What can be wrong with a dictionary-encoded column.
 use Rattle.std.specs.Prelude.{◌≡◌, ℕ, ℤ, List, [], ◌∷◌, true, Option, Some, None}
-use Rattle.layout.specs.declared.fault.LayoutFault.TheVariants.{IndexPastDictionary}
-use Rattle.types.specs.declared.int_type.IntType.{IntType}
+use Rattle.arrays.specs.LayoutFaults.{IndexPastDictionary}
+use Rattle.arrays.specs.IntType.{IntType}
 use Rattle.arrays.specs.Item.{Item}
-use Rattle.serde_json.specs.Data.{Data, Items}
-use Rattle.serde_json.specs.Find.{get_item}
+use Rattle.json_base.specs.Data.{Data, Items}
+use Rattle.json_base.specs.Find.{get_item}
 use Rattle.json_base.specs.JsonNumber.{integer_of}
 use Rattle.json_read.specs.JsonColumn.{flagged_at, ReadsSlots, HasSlots}
 use Rattle.json_read.specs.JsonColumnFault.{NoSlots}

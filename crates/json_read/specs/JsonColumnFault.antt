@@ -1,9 +1,9 @@
 -- What can be wrong with a column.
 use Rattle.std.specs.Prelude.{◌≡◌, ◌≢◌, ℕ, List, [], ◌∷◌, true, Option, Some, None, option_and_then}
-use Rattle.layout.specs.declared.fault.LayoutFault.TheVariants.{TooLong}
+use Rattle.arrays.specs.LayoutFaults.{TooLong}
 use Rattle.arrays.specs.Item.{Item}
-use Rattle.serde_json.specs.Data.{Data, Items}
-use Rattle.serde_json.specs.Find.{get_item, as_null, as_object}
+use Rattle.json_base.specs.Data.{Data, Items}
+use Rattle.json_base.specs.Find.{get_item, as_null, as_object}
 use Rattle.json_base.specs.JsonNumber.{count_of}
 use Rattle.json_base.specs.JsonMember.{member_of, Unlike, MemberFault, ListFault}
 use Rattle.json_read.specs.JsonColumn.{Spelling, overflows, flagged_at, ReadsSlots, HasSlots}

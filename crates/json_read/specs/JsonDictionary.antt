@@ -1,9 +1,9 @@
 -- The dictionaries of a file. (Arrow integration testing, "JSON test data format", DictionaryBatch)
 use Rattle.std.specs.Prelude.{◌≡◌, ℕ, List, Some, option_and_then}
-use Rattle.types.specs.declared.offset_width.OffsetWidth.TheVariants.{Narrow}
+use Rattle.arrays.specs.OffsetWidths.{Narrow}
 use Rattle.arrays.specs.Item.{Item}
-use Rattle.serde_json.specs.Data.{Data, item, no_items}
-use Rattle.serde_json.specs.Find.{as_array}
+use Rattle.json_base.specs.Data.{Data, item, no_items}
+use Rattle.json_base.specs.Find.{as_array}
 use Rattle.json_base.specs.JsonNumber.{count_of}
 use Rattle.json_base.specs.JsonMember.{member_of}
 use Rattle.json_read.specs.JsonSchema.{only_item}

@@ -1,8 +1,8 @@
 -- What can be wrong with a dictionary.
 use Rattle.std.specs.Prelude.{◌≡◌, ℕ, List, [], ◌∷◌, Some, None, option_and_then}
-use Rattle.types.specs.declared.offset_width.OffsetWidth.TheVariants.{Narrow}
-use Rattle.serde_json.specs.Data.{Data, item, no_items}
-use Rattle.serde_json.specs.Find.{as_array, as_object}
+use Rattle.arrays.specs.OffsetWidths.{Narrow}
+use Rattle.json_base.specs.Data.{Data, item, no_items}
+use Rattle.json_base.specs.Find.{as_array, as_object}
 use Rattle.json_base.specs.JsonNumber.{count_of}
 use Rattle.json_base.specs.JsonMember.{IsObject, member_of, Unlike, MemberFault, ListFault}
 use Rattle.json_read.specs.JsonSchema.{only_item}

@@ -1,7 +1,7 @@
 -- How the column of a field is encoded. (Arrow integration testing, "JSON test data format", Field and DictionaryType)
 use Rattle.std.specs.Prelude.{◌≡◌, ℤ, true, Option, Some, None, option_and_then}
-use Rattle.types.specs.declared.int_type.IntType.{IntType}
-use Rattle.serde_json.specs.Data.{Data}
+use Rattle.arrays.specs.IntType.{IntType}
+use Rattle.json_base.specs.Data.{Data}
 use Rattle.arrays.specs.Kind.{int64}
 use Rattle.json_base.specs.JsonNumber.{integer_of}
 use Rattle.json_base.specs.JsonMember.{member_of, is_without}

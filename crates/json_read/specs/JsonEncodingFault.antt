@@ -1,7 +1,7 @@
 -- What can be wrong with the encoding of a field.
 use Rattle.std.specs.Prelude.{◌≡◌, List, ◌∷◌, Some, None}
-use Rattle.serde_json.specs.Data.{Data}
-use Rattle.serde_json.specs.Find.{as_null, as_object}
+use Rattle.json_base.specs.Data.{Data}
+use Rattle.json_base.specs.Find.{as_null, as_object}
 use Rattle.json_base.specs.JsonMember.{IsObject, member_of, Unlike, MemberFault}
 use Rattle.json_read.specs.JsonEncoding.{id_of}
 use Rattle.json_read.specs.JsonSchemaFault.{IndexFault}

@@ -1,8 +1,8 @@
 -- One field by itself. (Arrow integration testing, "JSON test data format", Field; RFC 8259 for the text)
 use Rattle.std.specs.Prelude.{◌≡◌, ℕ, List, [], Some, None, IsUtf8}
 use Rattle.arrays.specs.Shape.{FieldShape}
-use Rattle.serde_json.specs.Data.{Data}
-use Rattle.serde_json.specs.Read.{read}
+use Rattle.json_base.specs.Data.{Data}
+use Rattle.json_base.specs.Read.{read}
 use Rattle.json_read.specs.JsonFields.{ReadsField}
 use Rattle.json_read.specs.JsonFieldsFault.{TopFault}
 use Rattle.json_base.specs.declared.path.Step.{Step}

@@ -2,8 +2,8 @@
 use Rattle.std.specs.Prelude.{◌≡◌, ℕ, List, Bool, true, false, Some, option_and_then}
 use Rattle.arrays.specs.Schema.{is_deep}
 use Rattle.arrays.specs.Shape.{FieldShape, utf8, dict, field}
-use Rattle.serde_json.specs.Data.{Data, Items}
-use Rattle.serde_json.specs.Find.{as_bool, as_str, as_array}
+use Rattle.json_base.specs.Data.{Data, Items}
+use Rattle.json_base.specs.Find.{as_bool, as_str, as_array}
 use Rattle.json_base.specs.JsonMember.{member_of, ReadsEach}
 use Rattle.json_read.specs.JsonSchema.{HasType, IsFieldOf, is_childless}
 use Rattle.json_read.specs.JsonEncoding.{Encoding, HasEncoding}

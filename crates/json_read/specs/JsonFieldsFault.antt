@@ -1,7 +1,7 @@
 -- What can be wrong with the fields of a schema.
 use Rattle.std.specs.Prelude.{◌≡◌, ◌≢◌, ℕ, List, [], ◌∷◌, codes, Some, option_and_then}
-use Rattle.serde_json.specs.Data.{Data, Items}
-use Rattle.serde_json.specs.Find.{as_array, as_object}
+use Rattle.json_base.specs.Data.{Data, Items}
+use Rattle.json_base.specs.Find.{as_array, as_object}
 use Rattle.json_base.specs.JsonMember.{IsObject, member_of, Unlike, MemberFault, EachFault}
 use Rattle.json_read.specs.JsonSchema.{member_type}
 use Rattle.json_read.specs.JsonSchemaFault.{FieldFault}

@@ -4,9 +4,9 @@ use Rattle.std.specs.List.{AllByRecursion}
 use Rattle.arrays.specs.Shape.{FieldShape}
 use Rattle.arrays.specs.Batch.{Batch}
 use Rattle.arrays.specs.File.{File}
-use Rattle.serde_json.specs.Data.{Data, Items}
-use Rattle.serde_json.specs.Find.{as_array, as_object}
-use Rattle.serde_json.specs.Read.{read}
+use Rattle.json_base.specs.Data.{Data, Items}
+use Rattle.json_base.specs.Find.{as_array, as_object}
+use Rattle.json_base.specs.Read.{read}
 use Rattle.json_base.specs.JsonMember.{member_of, Unlike, MemberFault, EachFault, ReadsEach}
 use Rattle.json_read.specs.JsonFields.{ReadsSchema}
 use Rattle.json_read.specs.JsonFieldsFault.{SchemaFault}

@@ -1,12 +1,12 @@
 -- What can be wrong with a column of lists.
 use Rattle.std.specs.Prelude.{◌≡◌, ℕ, ℤ, List, [], ◌∷◌, false, Option, Some, None, option_and_then}
-use Rattle.types.specs.declared.offset_width.OffsetWidth.{OffsetWidth}
-use Rattle.types.specs.OffsetWidth.{offset_type}
-use Rattle.layout.specs.declared.fault.LayoutFault.{LayoutFault}
+use Rattle.arrays.specs.OffsetWidth.{OffsetWidth}
+use Rattle.arrays.specs.OffsetSize.{offset_type}
+use Rattle.arrays.specs.LayoutFault.{LayoutFault}
 use Rattle.arrays.specs.Kind.{Kind}
-use Rattle.serde_json.specs.Data.{Data, Items}
-use Rattle.serde_json.specs.Find.{as_array, as_object}
-use Rattle.serde_json.specs.Events.{items_len}
+use Rattle.json_base.specs.Data.{Data, Items}
+use Rattle.json_base.specs.Find.{as_array, as_object}
+use Rattle.json_base.specs.Events.{items_len}
 use Rattle.json_base.specs.JsonNumber.{integer_of, count_of, flag_of}
 use Rattle.json_base.specs.JsonMember.{member_of, Unlike, MemberFault, ListFault, EachFault, ReadsEach}
 use Rattle.json_read.specs.JsonColumnFault.{CountFault, FlagsFault}

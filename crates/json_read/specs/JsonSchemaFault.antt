@@ -1,8 +1,8 @@
 -- What can be wrong with a schema.
 use Rattle.std.specs.Prelude.{◌≡◌, ◌≢◌, ℕ, suc, List, [], ◌∷◌, codes, false, Some, None, option_and_then}
-use Rattle.types.specs.declared.offset_width.OffsetWidth.{OffsetWidth}
-use Rattle.serde_json.specs.Data.{Data, Num}
-use Rattle.serde_json.specs.Find.{as_bool, as_null, as_number, as_str, as_object}
+use Rattle.arrays.specs.OffsetWidth.{OffsetWidth}
+use Rattle.json_base.specs.Data.{Data, Num}
+use Rattle.json_base.specs.Find.{as_bool, as_null, as_number, as_str, as_object}
 use Rattle.json_base.specs.JsonNumber.{width_of}
 use Rattle.json_base.specs.JsonMember.{IsObject, member_of, Unlike, MemberFault}
 use Rattle.json_read.specs.JsonSchema.{type_name, texts_name, lists_name, member_type, NamesLists, is_childless, only_item, only_child}

@@ -1,9 +1,9 @@
 -- The validity and the offsets of lists in memory.
 use Rattle.std.specs.Prelude.{◌≡◌, ℕ, ◌<◌, ℤ, List, false, Bool, Option, Some}
-use Rattle.types.specs.declared.offset_width.OffsetWidth.{OffsetWidth}
+use Rattle.arrays.specs.OffsetWidth.{OffsetWidth}
 use Rattle.arrays.specs.Fault.{is_validity_short}
 use Rattle.arrays.specs.Layout.{is_valid_in}
-use Rattle.serde_json.specs.Data.{Data, Items}
+use Rattle.json_base.specs.Data.{Data, Items}
 use Rattle.json_read.specs.JsonColumn.{flagged_at}
 use Rattle.json_read.specs.JsonList.{SpellsOffset, offset_bytes}
 use Rattle.json_base.specs.JsonMember.{ReadsEach}

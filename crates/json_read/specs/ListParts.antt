@@ -1,7 +1,7 @@
 -- The flags, the offsets and the child that a reader has found.
 use Rattle.std.specs.Prelude.{Option, option_map}
-use Rattle.serde_json.specs.Data.{Data, Items}
-use Rattle.serde_json.specs.View.{view, items_view}
+use Rattle.json_base.specs.Data.{Data, Items}
+use Rattle.json_base.specs.View.{view, items_view}
 use Rattle.json_read.specs.declared.list.ListParts.{ListParts}
 
 -- Where there are none, all lists are valid.

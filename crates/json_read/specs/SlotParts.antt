@@ -1,7 +1,7 @@
 -- The flags and values that a reader has found.
 use Rattle.std.specs.Prelude.{Option, option_map}
-use Rattle.serde_json.specs.Data.{Items}
-use Rattle.serde_json.specs.View.{items_view}
+use Rattle.json_base.specs.Data.{Items}
+use Rattle.json_base.specs.View.{items_view}
 use Rattle.json_read.specs.declared.column.Slots.{Slots}
 
 -- Where there are none, all slots are valid.

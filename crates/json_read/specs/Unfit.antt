@@ -1,10 +1,10 @@
 -- Why a value isn't taken into a column that has some items, and how that is reported.
 use Rattle.std.specs.Prelude.{◌≡◌, ℕ, List, [], ◌∷◌, ◌++◌, true, false, Some, None}
-use Rattle.layout.specs.declared.fault.LayoutFault.TheVariants as layout
+use Rattle.arrays.specs.LayoutFaults as layout
 use Rattle.arrays.specs.Item.{Item}
-use Rattle.serde_json.specs.Data.{Data}
+use Rattle.json_base.specs.Data.{Data}
 use Rattle.json_read.specs.JsonColumn.{Spelling, overflows}
-use Rattle.json_base.specs.JsonFault.{IsFault, no_memory}
+use Rattle.json_base.specs.FaultAt.{IsFault, no_memory}
 use Rattle.json_base.specs.declared.path.Member.TheVariants as member
 use Rattle.json_base.specs.declared.path.Step.TheVariants as step
 use Rattle.json_base.specs.declared.fault.JsonFault.{JsonFault}

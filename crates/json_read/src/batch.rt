@@ -3,13 +3,13 @@ ghost use Rattle.std.specs.Arc.{arc_value};
 ghost use Rattle.arrays.specs.Kind as kind;
 ghost use Rattle.arrays.specs.Kind.{kind_of};
 ghost use Rattle.arrays.specs.Shape.{fields_of};
-ghost use Rattle.types.specs.declared.data_type.Field.{out-Field};
-ghost use Rattle.serde_json.specs.View.{view, items_view};
+ghost use Rattle.arrays.specs.Field.{out-Field};
+ghost use Rattle.json_base.specs.View.{view, items_view};
 ghost use Rattle.json_read.specs.CatalogParts.{coding_of};
 ghost use Rattle.json_read.specs.JsonBatch.{HoldsColumn, HoldsColumns, HoldsTop, IsCatalogOf, ReadsBatch};
 ghost use Rattle.json_base.specs.JsonTable.{table_of};
 ghost use Rattle.json_read.specs.JsonBatchFault.{BatchFault, CodedFault, ColumnsFault, KindFault};
-ghost use Rattle.json_base.specs.JsonFault.{Tells};
+ghost use Rattle.json_base.specs.FaultAt.{Tells};
 
 use crate::catalog::Coding;
 use crate::codes::read_codes;
@@ -17,8 +17,7 @@ use crate::column::{list_member, read_numbers, read_texts, read_truths};
 use crate::list::read_list;
 use arrays::{Array, DataType, Field, OffsetWidth, RecordBatch, Schema};
 use json_base::member::{check_object, count_member, push};
-use json_base::{JsonFault, JsonFaultKind, Member, Step};
-use serde_json::Value;
+use json_base::{JsonFault, JsonFaultKind, Member, Step, Value};
 use std::alloc::Global;
 use std::sync::Arc;
 

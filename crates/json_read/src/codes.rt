@@ -5,20 +5,18 @@ ghost use Rattle.std.specs.Arc.{arc_value};
 ghost use Rattle.arrays.specs.Dictionary.{is_code};
 ghost use Rattle.arrays.specs.Item.{int};
 ghost use Rattle.arrays.specs.Kind as kind;
-ghost use Rattle.serde_json.specs.View.{view};
+ghost use Rattle.json_base.specs.View.{view};
 ghost use Rattle.json_read.specs.CodeParts.{HoldsCodes};
 ghost use Rattle.json_read.specs.JsonCodes.{ReadsCodes};
 ghost use Rattle.json_read.specs.JsonCodesFault.{CodesFault, IndicesFault};
 ghost use Rattle.json_read.specs.JsonColumn.{flagged_at};
-ghost use Rattle.json_base.specs.JsonFault.{Tells};
+ghost use Rattle.json_base.specs.FaultAt.{Tells};
 ghost use Rattle.json_read.specs.SlotParts.{flags_in, values_in};
 
 use crate::column::{Slots, read_slots};
-use arrays::{Array, IntBuilder, IntType, Integer, LayoutFault, View, Words};
-use colbits::NoMemory;
+use arrays::{Array, IntBuilder, IntType, Integer, LayoutFault, NoMemory, View, Words};
 use json_base::number::integer;
-use json_base::{JsonFault, JsonFaultKind, Member, Step};
-use serde_json::Value;
+use json_base::{JsonFault, JsonFaultKind, Member, Step, Value};
 use std::alloc::Global;
 use std::sync::Arc;
 

@@ -1,13 +1,13 @@
 ghost use Rattle.std.specs.Prelude.{◌≡◌, ◌+◌, ◌<◌, ◌^◌, ◌∷◌, ◌++◌, [], length, false, Option, Some, None, IfOk, IfErr, IfSome, OnOk, option_map, option_and_then};
 ghost use Rattle.arrays.specs.Item.{null};
 ghost use Rattle.arrays.specs.Kind as kind;
-ghost use Rattle.serde_json.specs.Data.{item, no_items};
-ghost use Rattle.serde_json.specs.Find.{as_array};
-ghost use Rattle.serde_json.specs.View.{view, items_view};
+ghost use Rattle.json_base.specs.Data.{item, no_items};
+ghost use Rattle.json_base.specs.Find.{as_array};
+ghost use Rattle.json_base.specs.View.{view, items_view};
 ghost use Rattle.json_read.specs.JsonBatch.{HoldsColumn};
 ghost use Rattle.json_read.specs.JsonColumn.{flags_of, flagged_at, numbers, truths, texts, spelling_of, overflows, ReadsSlots, HasSlots};
 ghost use Rattle.json_read.specs.JsonColumnFault.{CountFault, FlagsFault, NoSlots, SlotsFault, ColumnFault};
-ghost use Rattle.json_base.specs.JsonFault.{Tells};
+ghost use Rattle.json_base.specs.FaultAt.{Tells};
 ghost use Rattle.json_base.specs.JsonMember.{member_of, IsObject, ListFault, MemberFault};
 ghost use Rattle.json_base.specs.JsonNumber.{count_of};
 ghost use Rattle.json_read.specs.SlotParts.{flags_in, values_in};
@@ -15,13 +15,12 @@ ghost use Rattle.json_read.specs.Unfit.{HasNextItem, IsUnfit, IsSlotFault};
 ghost use Rattle.json_base.specs.declared.path.Member.TheVariants as member;
 
 use arrays::{
-    Array, BoolBuilder, BuildFault, IntBuilder, IntType, LayoutFault, OffsetWidth, TextBuilder,
+    Array, BoolBuilder, BuildFault, IntBuilder, IntType, LayoutFault, NoMemory, OffsetWidth,
+    TextBuilder,
 };
-use colbits::NoMemory;
 use json_base::member::{check_object, count_member, required};
 use json_base::number::{flag, integer};
-use json_base::{JsonFault, JsonFaultKind, Member, Step};
-use serde_json::Value;
+use json_base::{JsonFault, JsonFaultKind, Member, Step, Value};
 use std::alloc::Global;
 
 /// That the column's count is what the batch has.

@@ -2,18 +2,17 @@
 
 ghost use Rattle.std.specs.Prelude.{◌≡◌, IfOk, IfErr};
 ghost use Rattle.arrays.specs.Kind as kind;
-ghost use Rattle.serde_json.specs.View.{view};
+ghost use Rattle.json_base.specs.View.{view};
 ghost use Rattle.json_read.specs.JsonDictionary.{WrapsTexts, ReadsEntry, ReadsTexts};
 ghost use Rattle.json_read.specs.JsonDictionaryFault.{EntryFault, WrapperFault, TextsFault};
-ghost use Rattle.json_base.specs.JsonFault.{Tells};
+ghost use Rattle.json_base.specs.FaultAt.{Tells};
 ghost use Rattle.json_base.specs.JsonMember.{IsObject};
 
 use crate::column::{read_texts, single_member};
 use crate::schema::only_item;
 use arrays::{Array, OffsetWidth, Words};
 use json_base::member::{check_object, count_member, required};
-use json_base::{JsonFault, JsonFaultKind, Member, Step};
-use serde_json::Value;
+use json_base::{JsonFault, JsonFaultKind, Member, Step, Value};
 use std::alloc::Global;
 
 /// The texts of a dictionary's batch.

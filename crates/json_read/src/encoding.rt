@@ -1,11 +1,11 @@
 //! How the column of a field is encoded, if it is by a dictionary.
 
 ghost use Rattle.std.specs.Prelude.{◌≡◌, true, Some, IfOk, IfErr, IfNone, IfSome, option_and_then, option_map};
-ghost use Rattle.serde_json.specs.View.{view};
+ghost use Rattle.json_base.specs.View.{view};
 ghost use Rattle.json_read.specs.EncodingParts.{parts_of};
 ghost use Rattle.json_read.specs.JsonEncoding.{HasEncoding, IsEncoding, id_of};
 ghost use Rattle.json_read.specs.JsonEncodingFault.{EncodedFault, EncodingFault};
-ghost use Rattle.json_base.specs.JsonFault.{Tells};
+ghost use Rattle.json_base.specs.FaultAt.{Tells};
 ghost use Rattle.json_base.specs.JsonMember.{IsObject, MemberFault, Unlike, is_without, member_of};
 ghost use Rattle.json_base.specs.declared.path.Member.TheVariants as member;
 
@@ -13,8 +13,7 @@ use crate::type_object::read_index;
 use arrays::{IntType, Width};
 use json_base::member::{check_object, required, unlike};
 use json_base::number::integer;
-use json_base::{JsonFault, Member, Step};
-use serde_json::Value;
+use json_base::{JsonFault, Member, Step, Value};
 use std::alloc::Global;
 
 /// The type of the numbers of dictionaries.

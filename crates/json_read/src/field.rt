@@ -3,7 +3,7 @@
 ghost use Rattle.std.specs.Prelude.{IfErr, IfOk};
 ghost use Rattle.arrays.specs.Shape.{field_of};
 ghost use Rattle.json_read.specs.JsonField.{FieldTextFault, IsFieldText};
-ghost use Rattle.json_base.specs.JsonFault.{Tells};
+ghost use Rattle.json_base.specs.FaultAt.{Tells};
 
 use crate::schema::read_top;
 use arrays::Field;

@@ -1,14 +1,14 @@
 ghost use Rattle.std.specs.Prelude.{◌≡◌, Some, IfOk, IfErr, OnOk, IsUtf8, map, option_map};
 ghost use Rattle.std.specs.Arc.{arc_value};
-ghost use Rattle.serde_json.specs.Read.{read};
-ghost use Rattle.serde_json.specs.View.{view, items_view};
+ghost use Rattle.json_base.specs.Read.{read};
+ghost use Rattle.json_base.specs.View.{view, items_view};
 ghost use Rattle.json_read.specs.CatalogParts.{HasEncodings, coding_of};
 ghost use Rattle.json_read.specs.EncodingParts.{parts_of};
 ghost use Rattle.json_read.specs.JsonCatalog.{HasCatalog};
 ghost use Rattle.json_read.specs.JsonBatch.{IsCatalogOf, ReadsBatch};
 ghost use Rattle.json_base.specs.JsonTable.{table_of};
 ghost use Rattle.json_read.specs.JsonBatchFault.{BatchFault};
-ghost use Rattle.json_base.specs.JsonFault.{Tells};
+ghost use Rattle.json_base.specs.FaultAt.{Tells};
 ghost use Rattle.json_base.specs.JsonMember.{EachFault, NoDocument, IsObject, ReadsEach};
 ghost use Rattle.json_read.specs.JsonFile.{AreUnder, BytesFault, FileFault, HasSchema, Reads, ReadsFile, file_of};
 
@@ -18,8 +18,7 @@ use crate::schema::{EncodedSchema, read_schema};
 use arrays::{File, RecordBatch, Schema};
 use json_base::document::parse;
 use json_base::member::{array_member, check_object, push, required};
-use json_base::{JsonFault, Member, Step};
-use serde_json::Value;
+use json_base::{JsonFault, Member, Step, Value};
 use std::alloc::Global;
 use std::sync::Arc;
 

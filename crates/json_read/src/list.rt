@@ -6,13 +6,13 @@ ghost use Rattle.arrays.specs.FromParts.{list_parts};
 ghost use Rattle.arrays.specs.Kind as kind;
 ghost use Rattle.arrays.specs.Kind.{kind_of, same_kind};
 ghost use Rattle.arrays.specs.Number.{IsOfType, bytes_of_number};
-ghost use Rattle.types.specs.OffsetWidth.{offset_type};
-ghost use Rattle.types.specs.declared.data_type.Field.{out-Field};
-ghost use Rattle.serde_json.specs.Find.{as_array};
-ghost use Rattle.serde_json.specs.View.{view, items_view};
+ghost use Rattle.arrays.specs.OffsetSize.{offset_type};
+ghost use Rattle.arrays.specs.Field.{out-Field};
+ghost use Rattle.json_base.specs.Find.{as_array};
+ghost use Rattle.json_base.specs.View.{view, items_view};
 ghost use Rattle.json_read.specs.JsonBatch.{HoldsColumn};
 ghost use Rattle.json_read.specs.JsonBatchFault.{KindFault};
-ghost use Rattle.json_base.specs.JsonFault.{Tells, IsFault, no_memory};
+ghost use Rattle.json_base.specs.FaultAt.{Tells, IsFault, no_memory};
 ghost use Rattle.json_read.specs.JsonList.{HasListMembers, are_enough, lists_fault};
 ghost use Rattle.json_read.specs.JsonListFault.{ChildFault, ListsFault, NoFlags, NoLists, NoOffset, NotLawful, OffsetsFault};
 ghost use Rattle.json_base.specs.JsonMember.{EachFault, IsObject, ReadsEach, Unlike, member_of};
@@ -26,13 +26,12 @@ use crate::batch::read_array;
 use crate::column::{check_count, flags, single_member};
 use arrays::validity::buffer_of;
 use arrays::{
-    Array, Field, IntType, Integer, LayoutFault, OffsetSlots, OffsetWidth, ValidityBuilder,
+    Array, Buffer, Field, IntType, Integer, LayoutFault, NoMemory, OffsetSlots, OffsetWidth,
+    ValidityBuilder,
 };
-use colbits::{Buffer, NoMemory};
 use json_base::member::{array_member, check_object, count_member};
 use json_base::number::{flag, integer};
-use json_base::{JsonFault, JsonFaultKind, Member, Step};
-use serde_json::Value;
+use json_base::{JsonFault, JsonFaultKind, Member, Step, Value};
 use std::alloc::Global;
 
 /// The flags, the offsets and the child of a column object of lists.

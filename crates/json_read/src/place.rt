@@ -2,7 +2,7 @@
 
 ghost use Rattle.std.specs.Prelude.{◌≡◌, ◌+◌, ◌<◌, length, IfOk, IfErr, OnOk};
 ghost use Rattle.json_read.specs.PlaceParts.{ArePlaces, next_place, place_at};
-ghost use Rattle.json_base.specs.JsonFault.{no_memory};
+ghost use Rattle.json_base.specs.FaultAt.{no_memory};
 
 use json_base::JsonFault;
 use std::alloc::Global;

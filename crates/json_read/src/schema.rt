@@ -1,12 +1,12 @@
 ghost use Rattle.std.specs.Prelude.{◌≡◌, ◌+◌, ◌<◌, ◌≤◌, true, IfOk, IfErr, OnOk, None, Some, map, option_map, option_and_then};
 ghost use Rattle.std.specs.Arc.{arc_value};
-ghost use Rattle.serde_json.specs.Find.{as_array};
-ghost use Rattle.serde_json.specs.View.{view, items_view};
+ghost use Rattle.json_base.specs.Find.{as_array};
+ghost use Rattle.json_base.specs.View.{view, items_view};
 ghost use Rattle.arrays.specs.Kind.{depth};
 ghost use Rattle.arrays.specs.Schema.{schema_fault};
 ghost use Rattle.arrays.specs.Shape as shape;
 ghost use Rattle.arrays.specs.Shape.{field_of, fields_of, kind_of_field, shape_of};
-ghost use Rattle.json_base.specs.JsonFault.{Tells, no_memory};
+ghost use Rattle.json_base.specs.FaultAt.{Tells, no_memory};
 ghost use Rattle.json_read.specs.BareField.{IsFieldType, IsBare};
 ghost use Rattle.json_base.specs.JsonMember.{member_of, is_without, EachFault, IsObject, ReadsEach};
 ghost use Rattle.json_read.specs.JsonSchema.{HasType, NamesLists, only_item, only_child, IsFieldOf, is_childless};
@@ -23,8 +23,7 @@ use arrays::{DataType, Field, OffsetWidth, Schema};
 use json_base::member::{
     array_member, check_object, push, required, text_member, truth_member, unlike,
 };
-use json_base::{JsonFault, JsonFaultKind, Member, Step};
-use serde_json::Value;
+use json_base::{JsonFault, JsonFaultKind, Member, Step, Value};
 use std::alloc::Global;
 use std::sync::Arc;
 

@@ -1,9 +1,9 @@
 //! The objects of types.
 
 ghost use Rattle.std.specs.Prelude.{◌≡◌, IfOk, IfErr, OnOk, Some, codes};
-ghost use Rattle.serde_json.specs.View.{view};
+ghost use Rattle.json_base.specs.View.{view};
 ghost use Rattle.json_read.specs.BareField.{IsTypeRead};
-ghost use Rattle.json_base.specs.JsonFault.{Tells};
+ghost use Rattle.json_base.specs.FaultAt.{Tells};
 ghost use Rattle.json_base.specs.JsonMember.{IsObject};
 ghost use Rattle.json_read.specs.JsonSchema.{type_name, ReadsInt};
 ghost use Rattle.json_read.specs.JsonSchemaFault.{TypeFault, IndexFault};
@@ -11,8 +11,7 @@ ghost use Rattle.json_read.specs.JsonSchemaFault.{TypeFault, IndexFault};
 use arrays::{DataType, IntType, OffsetWidth};
 use json_base::member::{check_object, number_member, text_member, truth_member};
 use json_base::number::width;
-use json_base::{JsonFault, JsonFaultKind, Member};
-use serde_json::Value;
+use json_base::{JsonFault, JsonFaultKind, Member, Value};
 use std::alloc::Global;
 
 /// The name that a type object has.

@@ -17,6 +17,7 @@ mod value;
 mod word;
 
 pub use array::{ItemVisitor, read_array, read_integers};
+pub use json::{Reader, Scratch};
 pub use literal::{Literal, read_literal};
 pub use mark::{Container, Mark, empty_end, ends_in, read_mark};
 pub use miss::Miss;

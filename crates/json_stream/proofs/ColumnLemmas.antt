@@ -5,14 +5,14 @@ use Rattle.std.proofs.lemmas.Bool.Decides.{nat_tests}
 use Rattle.arrays.specs.Item.{Item}
 use Rattle.arrays.specs.Kind.{Kind, int, boolean, texts, lists, dict}
 use Rattle.arrays.specs.Seen.{Seen}
-use Rattle.json.specs.Lex.{lex, between, begins_colon}
-use Rattle.serde_json.specs.Data.{Num, Data, number, object, array, Items, no_items, Members, put}
-use Rattle.serde_json.specs.Find.{get_member, as_array, as_u64}
-use Rattle.serde_json.proofs.Views.{get_member-put, get_member-put_other}
-use Rattle.json_base.specs.JsonNumber.{below, count_of}
-use Rattle.json_base.specs.JsonPath.{member_name}
-use Rattle.json_base.specs.declared.path.Member.{Member}
-use Rattle.json_base.specs.declared.path.Member.TheVariants as member
+use Rattle.json_scan.specs.Lex.{lex, between, begins_colon}
+use Rattle.json_read.specs.Data.{Num, Data, number, object, array, Items, no_items, Members, put}
+use Rattle.json_read.specs.Find.{get_member, as_array, as_u64}
+use Rattle.json_read.proofs.Views.{get_member-put, get_member-put_other}
+use Rattle.json_read.specs.JsonNumber.{below, count_of}
+use Rattle.json_read.specs.JsonPath.{member_name}
+use Rattle.json_read.specs.Member.{Member}
+use Rattle.json_read.specs.Members as member
 use Rattle.json_read.specs.JsonBatch.{ReadsColumn, HoldsColumn, ReadsTop, HoldsTop}
 use Rattle.json_read.specs.JsonCatalog.{Coding}
 use Rattle.json_read.specs.JsonColumn.{spelling_of, flags_of, HasFlags, flagged_at, ReadsSlots, HasSlots, ReadsPlain}

@@ -4,9 +4,9 @@ use Rattle.std.specs.Prelude.{IfSome}
 use Rattle.std.specs.List.{range_with_len}
 use Rattle.std.proofs.lemmas.List.FromFn.{fill_by_all}
 use Rattle.std.proofs.lemmas.Option.{slice_get-get_or, slice_get_within}
-use Rattle.types.specs.declared.offset_width.OffsetWidth.{OffsetWidth}
-use Rattle.types.specs.declared.int_type.IntType.{IntType}
-use Rattle.types.specs.OffsetWidth.{offset_type}
+use Rattle.arrays.specs.OffsetWidth.{OffsetWidth}
+use Rattle.arrays.specs.IntType.{IntType}
+use Rattle.arrays.specs.OffsetSize.{offset_type}
 use Rattle.arrays.specs.Fault.{is_validity_short}
 use Rattle.arrays.specs.FromParts.{list_parts}
 use Rattle.arrays.specs.Kind as kind
@@ -17,14 +17,14 @@ use Rattle.arrays.specs.Packed.{IsBufferOf}
 use Rattle.arrays.specs.Seen.{Seen}
 use Rattle.arrays.specs.Shown.{kept}
 use Rattle.arrays.proofs.ValidityLemmas.{IsKept, kept_buffer}
-use Rattle.serde_json.specs.Data.{Data, object, array, no_items, Members, put}
-use Rattle.serde_json.specs.Find.{get_item, get_member, as_array}
-use Rattle.serde_json.specs.Events.{items_len}
-use Rattle.json_base.specs.JsonMember.{ReadsFirst}
-use Rattle.json_base.specs.JsonNumber.{count_of, fitting, integer_of, whole_of}
-use Rattle.json_base.specs.JsonPath.{member_name}
-use Rattle.json_base.specs.declared.path.Member.TheVariants as member
-use Rattle.json_base.proofs.JsonItems.{slice_get-front, slice_get-last, first_pushed}
+use Rattle.json_read.specs.Data.{Data, object, array, no_items, Members, put}
+use Rattle.json_read.specs.Find.{get_item, get_member, as_array}
+use Rattle.json_read.specs.Events.{items_len}
+use Rattle.json_read.specs.JsonMember.{ReadsFirst}
+use Rattle.json_read.specs.JsonNumber.{count_of, fitting, integer_of, whole_of}
+use Rattle.json_read.specs.JsonPath.{member_name}
+use Rattle.json_read.specs.Members as member
+use Rattle.json_read.proofs.JsonItems.{slice_get-front, slice_get-last, first_pushed}
 use Rattle.json_read.specs.JsonBatch.{HoldsColumn}
 use Rattle.json_read.specs.JsonList.{SpellsOffset, are_enough, lists_fault, HasListMembers}
 use Rattle.json_read.specs.ListBuffers.{HoldsFlags, HoldsOffsets}

@@ -10,13 +10,13 @@ use Rattle.arrays.specs.Shape.{FieldShape, kind_of_field}
 use Rattle.arrays.specs.Seen.{Seen}
 use Rattle.arrays.specs.Batch.{Batch, batch_fault, differing_type, differing_length}
 use Rattle.arrays.proofs.ListArrays.{same_kind-refl}
-use Rattle.serde_json.specs.Data.{Data, object, array, Members, no_items, put}
-use Rattle.serde_json.specs.Find.{get_member, as_array}
-use Rattle.json_base.specs.JsonNumber.{count_of}
-use Rattle.json_base.specs.JsonPath.{member_name}
-use Rattle.json_base.specs.JsonTable.{table_of}
-use Rattle.json_base.specs.declared.path.Member.TheVariants as member
-use Rattle.json_base.proofs.MemberLaws.{slice_get_some}
+use Rattle.json_read.specs.Data.{Data, object, array, Members, no_items, put}
+use Rattle.json_read.specs.Find.{get_member, as_array}
+use Rattle.json_read.specs.JsonNumber.{count_of}
+use Rattle.json_read.specs.JsonPath.{member_name}
+use Rattle.json_read.specs.JsonTable.{table_of}
+use Rattle.json_read.specs.Members as member
+use Rattle.json_read.proofs.MemberLaws.{slice_get_some}
 use Rattle.json_read.specs.JsonBatch.{ReadsTop, ReadsColumns, ReadsBatch}
 use Rattle.json_read.specs.JsonCatalog.{Coding}
 use Rattle.json_read.proofs.JsonSchemas.{position-none}

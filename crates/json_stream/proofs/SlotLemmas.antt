@@ -1,13 +1,13 @@
 -- Slots one after another.
 use Rattle.std.proofs.Common.{◌≡◌, ◌∙◌, ℕ, zero, suc, ◌+◌, ◌<◌, List, [], ◌∷◌, ◌++◌, length, Bool, false, Option, Some, None, refl, sym, ap, ap₂, subst, arith, length-append, below_more}
 use Rattle.std.specs.List.{slice_get}
-use Rattle.types.specs.declared.offset_width.OffsetWidth.{OffsetWidth}
-use Rattle.types.specs.declared.offset_width.OffsetWidth.TheVariants.{Narrow, Wide}
+use Rattle.arrays.specs.OffsetWidth.{OffsetWidth}
+use Rattle.arrays.specs.OffsetWidths.{Narrow, Wide}
 use Rattle.arrays.specs.Item.{Item}
-use Rattle.serde_json.specs.Data.{Data, Items, no_items}
-use Rattle.serde_json.specs.Find.{get_item}
-use Rattle.serde_json.specs.Events.{items_len}
-use Rattle.json_base.proofs.JsonItems.{slice_get-front, slice_get-last}
+use Rattle.json_read.specs.Data.{Data, Items, no_items}
+use Rattle.json_read.specs.Find.{get_item}
+use Rattle.json_read.specs.Events.{items_len}
+use Rattle.json_read.proofs.JsonItems.{slice_get-front, slice_get-last}
 use Rattle.json_read.specs.JsonColumn.{Spelling, is_past_offsets, slot_of, flagged_at, ReadsSlots}
 use Rattle.json_scan.specs.Spelling.{before}
 use Rattle.json_stream.specs.Validity.{valid_of}

@@ -2,10 +2,10 @@
 use Rattle.std.specs.Prelude.{◌≡◌, List, Option, Some, None, option_map}
 use Rattle.arrays.specs.Seen.{Seen}
 use Rattle.arrays.specs.Shape.{FieldShape}
-use Rattle.serde_json.specs.Data.{Data, Members, array, no_items}
-use Rattle.serde_json.specs.Find.{get_member}
-use Rattle.json_base.specs.JsonPath.{member_name}
-use Rattle.json_base.specs.declared.path.Member.TheVariants as member
+use Rattle.json_read.specs.Data.{Data, Members, array, no_items}
+use Rattle.json_read.specs.Find.{get_member}
+use Rattle.json_read.specs.JsonPath.{member_name}
+use Rattle.json_read.specs.Members as member
 use Rattle.json_read.specs.JsonCatalog.{Coding}
 use Rattle.json_scan.specs.Spelling.{before}
 use Rattle.json_stream.specs.Column.{IsCountMember}

@@ -2,12 +2,12 @@
 use Rattle.std.specs.Prelude.{◌≡◌, ℕ, List, drop, Bool, false, Option, Some, None, option_and_then}
 use Rattle.arrays.specs.Kind.{Kind}
 use Rattle.arrays.specs.Seen.{Seen}
-use Rattle.json.specs.Lex.{lex, between, begins_colon}
-use Rattle.serde_json.specs.Data.{Data, Members, array, no_items}
-use Rattle.serde_json.specs.Find.{get_member}
-use Rattle.json_base.specs.JsonNumber.{count_of}
-use Rattle.json_base.specs.JsonPath.{member_name}
-use Rattle.json_base.specs.declared.path.Member.TheVariants as member
+use Rattle.json_scan.specs.Lex.{lex, between, begins_colon}
+use Rattle.json_read.specs.Data.{Data, Members, array, no_items}
+use Rattle.json_read.specs.Find.{get_member}
+use Rattle.json_read.specs.JsonNumber.{count_of}
+use Rattle.json_read.specs.JsonPath.{member_name}
+use Rattle.json_read.specs.Members as member
 use Rattle.json_read.specs.JsonCatalog.{Coding}
 use Rattle.json_scan.specs.Spelling.{SpellsAt, before}
 use Rattle.json_stream.specs.Validity.{IsValidity}

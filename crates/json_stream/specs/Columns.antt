@@ -2,7 +2,7 @@
 use Rattle.std.specs.Prelude.{◌≡◌, ℕ, ◌≤◌, List, length, slice_get, Option, Some}
 use Rattle.arrays.specs.Seen.{Seen}
 use Rattle.arrays.specs.Shape.{FieldShape, kind_of_field}
-use Rattle.serde_json.specs.Data.{Data}
+use Rattle.json_read.specs.Data.{Data}
 use Rattle.json_read.specs.JsonBatch.{HoldsTop}
 use Rattle.json_read.specs.JsonCatalog.{Coding}
 

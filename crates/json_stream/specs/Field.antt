@@ -1,6 +1,6 @@
 -- A field, and how its column is encoded, as they are lent.
 use Rattle.std.specs.Prelude.{Option, option_map}
-use Rattle.types.specs.declared.data_type.Field.{out-Field}
+use Rattle.arrays.specs.Field.{out-Field}
 use Rattle.arrays.specs.Kind.{Kind, kind_of}
 use Rattle.json_read.specs.CatalogParts.{coding_of}
 use Rattle.json_read.specs.JsonCatalog.{Coding}

@@ -1,12 +1,12 @@
 -- The members of a column object of lists, as far as they are read. (Arrow integration testing, "JSON test data format", FieldData)
 use Rattle.std.specs.Prelude.{◌≡◌, ℕ, ◌-◌, List, [], ◌∷◌, length, drop, false, Option, Some, None}
-use Rattle.types.specs.declared.offset_width.OffsetWidth.{OffsetWidth}
+use Rattle.arrays.specs.OffsetWidth.{OffsetWidth}
 use Rattle.arrays.specs.Kind.{Kind}
-use Rattle.json.specs.Lex.{lex, between, begins_colon}
-use Rattle.serde_json.specs.Data.{Data, Members, array, item, no_items}
-use Rattle.serde_json.specs.Find.{get_member}
-use Rattle.json_base.specs.JsonPath.{member_name}
-use Rattle.json_base.specs.declared.path.Member.TheVariants as member
+use Rattle.json_scan.specs.Lex.{lex, between, begins_colon}
+use Rattle.json_read.specs.Data.{Data, Members, array, item, no_items}
+use Rattle.json_read.specs.Find.{get_member}
+use Rattle.json_read.specs.JsonPath.{member_name}
+use Rattle.json_read.specs.Members as member
 use Rattle.json_read.specs.JsonBatch.{HoldsColumn}
 use Rattle.json_scan.specs.Spelling.{SpellsAt}
 use Rattle.json_stream.specs.Column.{IsCountMember}

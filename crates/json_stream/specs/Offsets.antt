@@ -1,8 +1,8 @@
 -- The member OFFSET of a column of lists. (Arrow integration testing, "JSON test data format", FieldData)
 use Rattle.std.specs.Prelude.{◌≡◌, Option, Some, None}
-use Rattle.types.specs.declared.offset_width.OffsetWidth.{OffsetWidth}
-use Rattle.serde_json.specs.Data.{Data, Items, array}
-use Rattle.serde_json.specs.Events.{items_len}
+use Rattle.arrays.specs.OffsetWidth.{OffsetWidth}
+use Rattle.json_read.specs.Data.{Data, Items, array}
+use Rattle.json_read.specs.Events.{items_len}
 use Rattle.json_read.specs.ListBuffers.{HoldsOffsets}
 use Rattle.json_stream.specs.declared.offsets.Offsets.{Offsets}
 

@@ -3,7 +3,7 @@ use Rattle.std.specs.Prelude.{◌≡◌, ℕ, ◌<◌, List, [], ◌∷◌, ◌+
 use Rattle.arrays.specs.Item.{Item}
 use Rattle.arrays.specs.Kind.{Kind, int, boolean, texts, lists, dict}
 use Rattle.arrays.specs.Seen.{Seen}
-use Rattle.serde_json.specs.Data.{Data}
+use Rattle.json_read.specs.Data.{Data}
 use Rattle.json_read.specs.JsonCatalog.{Coding}
 use Rattle.json_read.specs.JsonCodes.{indices}
 use Rattle.json_read.specs.JsonColumn.{Spelling, spelling_of, overflows, slot_of}

@@ -1,7 +1,7 @@
 -- The member VALIDITY of a column, as bits. (Arrow integration testing, "JSON test data format", FieldData)
 use Rattle.std.specs.Prelude.{◌≡◌, ℕ, List, map, slice_get, Bool, true, Option, Some, None}
-use Rattle.serde_json.specs.Data.{Data, no_items}
-use Rattle.json_base.specs.JsonNumber.{flag_of}
+use Rattle.json_read.specs.Data.{Data, no_items}
+use Rattle.json_read.specs.JsonNumber.{flag_of}
 use Rattle.json_read.specs.JsonColumn.{flags_of}
 use Rattle.json_scan.specs.Spelling.{before}
 

@@ -1,9 +1,9 @@
 //! Column objects: their members in any order, of those of one name the last.
 
 ghost use Rattle.std.specs.Prelude.{◌≡◌, ◌<◌, ◌≤◌, length, drop, List, Option, Some, option_map, IfOk, IfSome, IsTrue};
-ghost use Rattle.types.specs.declared.data_type.Field.{out-Field};
+ghost use Rattle.arrays.specs.Field.{out-Field};
 ghost use Rattle.arrays.specs.Kind.{kind_of};
-ghost use Rattle.serde_json.specs.Data.{Data, Members, object};
+ghost use Rattle.json_read.specs.Data.{Data, Members, object};
 ghost use Rattle.json_read.specs.CatalogParts.{coding_of};
 ghost use Rattle.json_read.specs.JsonBatch.{HoldsColumn, HoldsTop};
 ghost use Rattle.json_scan.specs.Spelling.{SpellsAt};
@@ -15,10 +15,8 @@ use crate::list::read_list;
 use crate::natural::read_natural;
 use crate::validity::read_validity;
 use crate::values::read_values;
-use arrays::{Array, DataType, Field, OffsetWidth};
-use colbits::BitmapBuf;
-use json_base::Member;
-use json_read::Coding;
+use arrays::{Array, BitmapBuf, DataType, Field, OffsetWidth};
+use json_read::{Coding, Member};
 use json_scan::{Container, MemberVisitor, Miss, Placed, ends_in, pass_value, read_object};
 use std::alloc::Global;
 

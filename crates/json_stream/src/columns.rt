@@ -2,14 +2,13 @@
 
 ghost use Rattle.std.specs.Prelude.{◌≡◌, ◌<◌, ◌≤◌, ◌∷◌, ◌++◌, List, [], length, drop, map, option_map, IfOk, OnOk};
 ghost use Rattle.arrays.specs.Shape.{fields_of};
-ghost use Rattle.serde_json.specs.Data.{Data, array, no_items};
+ghost use Rattle.json_read.specs.Data.{Data, array, no_items};
 ghost use Rattle.json_read.specs.CatalogParts.{coding_of};
 ghost use Rattle.json_scan.specs.Spelling.{SpellsAt, before};
 ghost use Rattle.json_stream.specs.Columns.{AreReadColumns};
 
 use crate::column::read_column;
-use arrays::{Array, Field};
-use colbits::NoMemory;
+use arrays::{Array, Field, NoMemory};
 use json_read::Coding;
 use json_scan::{ItemVisitor, Miss, Placed, read_array};
 use std::alloc::Global;

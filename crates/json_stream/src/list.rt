@@ -1,14 +1,14 @@
 //! Columns of lists: their members in any order, of those of one name the last.
 
 ghost use Rattle.std.specs.Prelude.{◌≡◌, ◌-◌, ◌<◌, ◌≤◌, ◌||◌, ◌&&◌, ◌==◌, ◌+◌, false, true, length, drop, Some, IfOk, IfSome, option_and_then};
-ghost use Rattle.types.specs.declared.data_type.Field.{out-Field};
+ghost use Rattle.arrays.specs.Field.{out-Field};
 ghost use Rattle.arrays.specs.Fault.{is_validity_short};
 ghost use Rattle.arrays.specs.FromParts.{list_parts};
 ghost use Rattle.arrays.specs.Kind as kind;
 ghost use Rattle.arrays.specs.Kind.{kind_of, same_kind};
 ghost use Rattle.arrays.specs.Packed.{IsBufferOf};
 ghost use Rattle.arrays.specs.Shown.{kept};
-ghost use Rattle.serde_json.specs.Data.{Data, Members, object};
+ghost use Rattle.json_read.specs.Data.{Data, Members, object};
 ghost use Rattle.json_read.specs.JsonBatch.{HoldsColumn};
 ghost use Rattle.json_read.specs.JsonList.{are_enough, lists_fault};
 ghost use Rattle.json_scan.specs.Spelling.{SpellsAt};
@@ -18,9 +18,10 @@ use crate::column::{Stretch, are_flags_of, read_plain, read_uncoded};
 use crate::natural::read_natural;
 use crate::offsets::{Offsets, read_offsets};
 use crate::validity::read_validity;
-use arrays::{Array, DataType, Field, LayoutFault, OffsetSlots, OffsetWidth};
-use colbits::{BitmapBuf, Buffer, NoMemory};
-use json_base::Member;
+use arrays::{
+    Array, BitmapBuf, Buffer, DataType, Field, LayoutFault, NoMemory, OffsetSlots, OffsetWidth,
+};
+use json_read::Member;
 use json_scan::{
     Container, ItemVisitor, MemberVisitor, Miss, Placed, ends_in, pass_value, read_array,
     read_object,
@@ -97,7 +98,7 @@ struct Children<'f> {
 
 impl ItemVisitor for Children<'_> {
     ghost use Rattle.std.specs.Prelude.{◌≡◌};
-    ghost use Rattle.types.specs.declared.data_type.Field.{out-Field};
+    ghost use Rattle.arrays.specs.Field.{out-Field};
     ghost use Rattle.arrays.specs.Kind.{kind_of};
     ghost use Rattle.json_stream.specs.Lists.{HoldsOnlyChild};
 
@@ -162,7 +163,7 @@ struct ListMembers<'f> {
 
 impl MemberVisitor for ListMembers<'_> {
     ghost use Rattle.std.specs.Prelude.{◌≡◌};
-    ghost use Rattle.types.specs.declared.data_type.Field.{out-Field};
+    ghost use Rattle.arrays.specs.Field.{out-Field};
     ghost use Rattle.arrays.specs.Kind.{kind_of};
     ghost use Rattle.json_stream.specs.Lists.{HoldsLists};
 

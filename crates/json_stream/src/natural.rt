@@ -1,9 +1,9 @@
 //! Numbers from 0 up, and flags.
 
 ghost use Rattle.std.specs.Prelude.{◌≡◌, ◌<◌, ◌≤◌, ◌^◌, length, drop, Some, IfSome};
-ghost use Rattle.serde_json.specs.Data.{Num, Data, number};
-ghost use Rattle.serde_json.specs.Find.{as_u64};
-ghost use Rattle.json_base.specs.JsonNumber.{flag_number, flag_of};
+ghost use Rattle.json_read.specs.Data.{Num, Data, number};
+ghost use Rattle.json_read.specs.Find.{as_u64};
+ghost use Rattle.json_read.specs.JsonNumber.{flag_number, flag_of};
 ghost use Rattle.json_scan.specs.Spelling.{Spells};
 
 use json_scan::{Literal, Placed, read_integer, read_literal};

@@ -1,13 +1,12 @@
 //! OFFSET: where lists begin and end among the items of their child.
 
 ghost use Rattle.std.specs.Prelude.{◌≡◌, ◌<◌, ◌≤◌, length, drop, IfOk};
-ghost use Rattle.serde_json.specs.Data.{Items, array};
+ghost use Rattle.json_read.specs.Data.{Items, array};
 ghost use Rattle.json_scan.specs.Spelling.{SpellsAt};
 ghost use Rattle.json_stream.specs.Offsets.{AreSpelledOffsets};
 
 use crate::whole::read_whole;
-use arrays::{MOST_SLOTS, OffsetWidth};
-use colbits::NoMemory;
+use arrays::{MOST_SLOTS, NoMemory, OffsetWidth};
 use json_read::{offset_type, push_offset};
 use json_scan::{ItemVisitor, Miss, Placed, read_array};
 use std::alloc::Global;
@@ -23,7 +22,7 @@ pub(crate) struct Offsets {
 
 impl ItemVisitor for Offsets {
     ghost use Rattle.std.specs.Prelude.{◌≡◌};
-    ghost use Rattle.serde_json.specs.Data.{no_items};
+    ghost use Rattle.json_read.specs.Data.{no_items};
     ghost use Rattle.json_scan.specs.Spelling.{before};
     ghost use Rattle.json_stream.specs.Offsets.{AreSpelledOffsets};
 

@@ -3,19 +3,18 @@
 ghost use Rattle.std.specs.Prelude.{◌≡◌, ◌<◌, ◌≤◌, ◌∷◌, ◌++◌, [], length, drop, true, IfOk, OnErr, OnOk};
 ghost use Rattle.std.specs.Arc.{arc_value};
 ghost use Rattle.std.specs.List.{All};
-ghost use Rattle.types.specs.Limits.{most_slots};
+ghost use Rattle.arrays.specs.Limits.{most_slots};
 ghost use Rattle.arrays.specs.Dictionary.{is_code};
 ghost use Rattle.arrays.specs.Item.{int, null};
 ghost use Rattle.arrays.specs.Kind.{int32};
-ghost use Rattle.serde_json.specs.Data.{Data};
+ghost use Rattle.json_read.specs.Data.{Data};
 ghost use Rattle.json_read.specs.Unfit.{HasNextItem};
 ghost use Rattle.json_scan.specs.Spelling.{Spells};
 ghost use Rattle.json_stream.specs.Slots.{spelling_at};
 
 use crate::natural::read_flag;
 use crate::whole::read_whole;
-use arrays::{Array, BoolBuilder, BuildFault, IntBuilder, IntType, TextBuilder};
-use colbits::NoMemory;
+use arrays::{Array, BoolBuilder, BuildFault, IntBuilder, IntType, NoMemory, TextBuilder};
 use json_read::Coding;
 use json_scan::{Miss, read_text};
 

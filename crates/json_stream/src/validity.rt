@@ -1,13 +1,12 @@
 //! VALIDITY: which slots of a column are valid.
 
 ghost use Rattle.std.specs.Prelude.{◌≡◌, ◌<◌, ◌≤◌, length, drop, Some, IfOk};
-ghost use Rattle.serde_json.specs.Data.{Data};
+ghost use Rattle.json_read.specs.Data.{Data};
 ghost use Rattle.json_scan.specs.Spelling.{SpellsAt};
 ghost use Rattle.json_stream.specs.Validity.{AreFlags, IsValidity, valid_of};
 
 use crate::natural::read_flag;
-use arrays::MOST_SLOTS;
-use colbits::{BitmapBuf, BitmapBuilder, NoMemory};
+use arrays::{BitmapBuf, BitmapBuilder, MOST_SLOTS, NoMemory};
 use json_scan::{ItemVisitor, Literal, Miss, Placed, read_array, read_literal};
 use std::alloc::Global;
 

@@ -1,11 +1,11 @@
 //! DATA: the values of a column's slots.
 
 ghost use Rattle.std.specs.Prelude.{◌≡◌, ◌<◌, ◌≤◌, List, [], length, drop, None, Some, IfOk, IsTrue, OnErr};
-ghost use Rattle.types.specs.declared.data_type.Field.{out-Field};
-ghost use Rattle.types.specs.Limits.{most_slots};
+ghost use Rattle.arrays.specs.Field.{out-Field};
+ghost use Rattle.arrays.specs.Limits.{most_slots};
 ghost use Rattle.arrays.specs.Kind as kind;
 ghost use Rattle.arrays.specs.Kind.{kind_of};
-ghost use Rattle.serde_json.specs.Data.{Data, array, no_items};
+ghost use Rattle.json_read.specs.Data.{Data, array, no_items};
 ghost use Rattle.json_read.specs.CatalogParts.{coding_of};
 ghost use Rattle.json_scan.specs.Spelling.{SpellsAt, before};
 ghost use Rattle.json_stream.specs.Field.{coding_in, kind_in};
@@ -15,10 +15,9 @@ use crate::field::EncodedField;
 use crate::slots::{CodeColumn, IntColumn, SlotBuilder, TextColumn};
 use crate::validity::valid_at;
 use arrays::{
-    Array, BoolBuilder, DataType, Field, INT32, IntBuilder, IntType, MOST_SLOTS, OffsetWidth,
-    TextBuilder,
+    Array, BitmapBuf, BoolBuilder, DataType, Field, INT32, IntBuilder, IntType, MOST_SLOTS,
+    NoMemory, OffsetWidth, TextBuilder,
 };
-use colbits::{BitmapBuf, NoMemory};
 use json_read::Coding;
 use json_scan::{ItemVisitor, Miss, Placed, pass_value, read_array};
 use std::alloc::Global;

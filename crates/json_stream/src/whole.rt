@@ -1,11 +1,11 @@
 //! Whole numbers, as JSON numbers and as texts.
 
 ghost use Rattle.std.specs.Prelude.{◌≡◌, ◌<◌, ◌≤◌, length, drop, Some, IfSome};
-ghost use Rattle.serde_json.specs.Data.{Data};
-ghost use Rattle.json_base.specs.JsonNumber.{whole_of};
+ghost use Rattle.json_read.specs.Data.{Data};
+ghost use Rattle.json_read.specs.JsonNumber.{whole_of};
 ghost use Rattle.json_scan.specs.Spelling.{Spells};
 
-use json_base::number::text_integer;
+use json_read::text_integer;
 use json_scan::{Placed, read_integer, read_plain_text};
 
 /// The whole number that stands here, or after spaces, as a number or as a text in which nothing is escaped. A text's is less than 2^64 away

@@ -3,7 +3,7 @@ use Rattle.std.proofs.Common.{◌≡◌, ◌∙◌, ℕ, ◌+◌, ◌<◌, ◌==
 use Rattle.std.specs.List.{range_with_len}
 use Rattle.std.specs.Option.{option_or}
 use Rattle.std.proofs.lemmas.List.{get_or-replicate, length-replicate}
-use Rattle.types.specs.declared.int_type.IntType.{IntType}
+use Rattle.arrays.specs.IntType.{IntType}
 use Rattle.arrays.specs.Item.{Item, null, int, boolean, text, list}
 use Rattle.arrays.specs.Kind as kind
 use Rattle.arrays.specs.Kind.{Kind}
@@ -11,7 +11,7 @@ use Rattle.arrays.specs.Number.{is_of_type}
 use Rattle.arrays.specs.Seen.{Seen, valid_at}
 use Rattle.arrays.specs.Shown.{kept}
 use Rattle.truths.specs.Valid.{both_valid, valid_in_both}
-use Rattle.layout.proofs.ListLemmas.{map-range-below}
+use Rattle.arrays.proofs.RangeLists.{map-range-below}
 use Rattle.arrays.specs.Slot.{item_at}
 use Rattle.kernels.specs.Lift.{lifted}
 use Rattle.kernels.specs.Fault.{IsKernelFault, type_fault}

@@ -5,7 +5,7 @@ use Rattle.std.specs.declared.cmp.Ordering.TheVariants.{Less, Equal, Greater}
 use Rattle.std.specs.Ordering.{int_cmp, bool_cmp, nat_cmp, is_eq}
 use Rattle.std.specs.Cmp.Lexicographic.{slice_cmp}
 use Rattle.std.proofs.lemmas.List.FromFn.{get_or-map-range_with_len}
-use Rattle.layout.proofs.ListLemmas.{map-range-below}
+use Rattle.arrays.proofs.RangeLists.{map-range-below}
 use Rattle.arrays.specs.Item as item
 use Rattle.arrays.specs.Item.{Item, null, int, text, is_null}
 use Rattle.arrays.specs.Offsets.{of_slot}

@@ -9,7 +9,7 @@ use Rattle.arrays.specs.Seen.{Seen}
 use Rattle.arrays.specs.Slot.{item_at, item_of_bool}
 use Rattle.arrays.specs.Truth.{knows_false}
 use Rattle.arrays.specs.Values.{bool_in}
-use Rattle.layout.proofs.ListLemmas.{map-range-below}
+use Rattle.arrays.proofs.RangeLists.{map-range-below}
 use Rattle.arrays.proofs.TruthLemmas.{bool_items-slot}
 use Rattle.kernels.specs.Kleene.{and_known, conjunction, disjunction, negation, or_known, truth_of, truths_fault}
 use Rattle.kernels.specs.Known.{HasTruths, are_both, is_either, tells_and, tells_or}

@@ -4,14 +4,14 @@ use borrow.Author.Count.{below_more}
 use Rattle.std.specs.Int.{w128}
 use Rattle.std.proofs.lemmas.Int.{ints}
 use Rattle.std.proofs.lemmas.Nat.{row_fits}
-use Rattle.types.specs.declared.int_type.Width.{Width}
-use Rattle.types.specs.declared.int_type.Width.TheVariants.{W8, W16, W32, W64}
-use Rattle.types.specs.declared.int_type.IntType.{IntType}
+use Rattle.arrays.specs.Width.{Width}
+use Rattle.arrays.specs.Widths.{W8, W16, W32, W64}
+use Rattle.arrays.specs.IntType.{IntType}
 use Rattle.arrays.specs.Kind.{bytes_of}
 use Rattle.arrays.specs.Number.{number_at, is_of_type, bytes_of_number}
 use Rattle.arrays.proofs.NumberLemmas.{FitsSigned-from_type}
-use Rattle.types.proofs.RangeLemmas.{IsOfType-from_test}
-use Rattle.types.proofs.EncodingLemmas.{length-bytes_of_number, number_at-append-front, number_at-append-end}
+use Rattle.arrays.proofs.RangeLemmas.{IsOfType-from_test}
+use Rattle.arrays.proofs.EncodingLemmas.{length-bytes_of_number, number_at-append-front, number_at-append-end}
 use Rattle.kernels.specs.Computed.{AreResults}
 
 -- ---- the test of a number

@@ -6,9 +6,9 @@ use Rattle.std.proofs.lemmas.Simd.{map-map}
 use Rattle.std.proofs.lemmas.List.FromFn.{get_or-map-range_with_len}
 use Rattle.std.specs.Option.{option_or}
 use Rattle.colbits.specs.Bit.{bits}
-use Rattle.types.specs.declared.int_type.Width.{Width}
-use Rattle.types.specs.declared.int_type.Width.TheVariants.{W8, W16, W32, W64}
-use Rattle.types.specs.declared.int_type.IntType.{IntType}
+use Rattle.arrays.specs.Width.{Width}
+use Rattle.arrays.specs.Widths.{W8, W16, W32, W64}
+use Rattle.arrays.specs.IntType.{IntType}
 use Rattle.arrays.specs.Item.{Item, null, int, is_null}
 use Rattle.arrays.specs.Kind as kind
 use Rattle.arrays.specs.Kind.{Kind, same_int}
@@ -18,9 +18,9 @@ use Rattle.arrays.specs.Fault.{least_row}
 use Rattle.arrays.specs.FromParts.{show_numbers}
 use Rattle.arrays.specs.Seen.{Seen, valid_at, valid_in, no_entries}
 use Rattle.arrays.specs.Values.{HasNumbers}
-use Rattle.layout.proofs.ListLemmas.{map-range-below}
-use Rattle.layout.proofs.RowLemmas.{least_found, least_none}
-use Rattle.types.proofs.SchemaLemmas.{position-map}
+use Rattle.arrays.proofs.RangeLists.{map-range-below}
+use Rattle.arrays.proofs.RowLemmas.{least_found, least_none}
+use Rattle.arrays.proofs.SchemaLemmas.{position-map}
 use Rattle.arrays.specs.Slot.{item_at}
 use Rattle.kernels.specs.Lift.{lifted}
 use Rattle.arrays.specs.Packed.{IsBufferOf}

@@ -6,7 +6,7 @@ use Rattle.arrays.specs.Kind as kind
 use Rattle.arrays.specs.Kind.{Kind, same_int}
 use Rattle.arrays.specs.Number.{is_of_type}
 use Rattle.arrays.specs.Seen.{Seen}
-use Rattle.types.specs.declared.int_type.IntType.{IntType}
+use Rattle.arrays.specs.IntType.{IntType}
 use Rattle.kernels.specs.Lift.{lift}
 use Rattle.kernels.specs.Fault.{shape_fault}
 use Rattle.kernels.specs.declared.fault.KernelFault.{KernelFault}

@@ -1,3 +1,4 @@
+pub use Rattle.truths.specs.Truth
 pub mod Lift
 pub mod Fault
 pub mod Arithmetic

@@ -11,16 +11,15 @@ ghost use Rattle.kernels.specs.Beside.{fault_from, fault_with, number_beside, nu
 ghost use Rattle.kernels.specs.Computed.{AreOutside, AreResults, AreRows, StopsAt, bytes_of_results, result_at};
 ghost use Rattle.kernels.specs.Fault.{IsKernelFault};
 ghost use Rattle.arrays.specs.Shown.{shown};
-ghost use Rattle.types.specs.Limits.{most_slots};
+ghost use Rattle.arrays.specs.Limits.{most_slots};
 
 use crate::fault::KernelFault;
 use crate::side::{One, Own, Side, type_with};
 use arrays::validity::{buffer_of, valid_word};
-use arrays::{Array, IntType, Integer, Packed, View, ViewType};
+use arrays::{Array, IntType, Integer, Packed, View, ViewType, with_integer};
 use colbits::{BitmapBuf, Bits, Buffer, NoMemory};
 use std::alloc::Global;
 use truths::both_valid;
-use types::with_integer;
 
 /// The sums of two columns of one integer type: null where either is null, else the exact sum, which has to be of
 /// the type. `TypesDiffer` unless both columns are of one integer type; else `LengthsDiffer` unless they are of one
@@ -102,7 +101,7 @@ pub fn mul_number(alloc: Global, a: &View<'_>, number: i128) -> Result<Array, Ke
 trait Operation {
     ghost use Rattle.std.specs.Prelude.{◌≡◌, ◌^◌, ◌≤ℤ◌, ℤ, neg_ℤ, pos, false, IfNone, IfSome};
     ghost use Rattle.arrays.specs.Number.{IsResult, is_of_type};
-    ghost use Rattle.types.specs.declared.int_type.IntType.{IntType};
+    ghost use Rattle.arrays.specs.IntType.{IntType};
 
     // The exact result, of any size.
     ghost exact: { ℤ → ℤ → ℤ };

@@ -17,12 +17,11 @@ mod wanted;
 
 use crate::fault::KernelFault;
 use crate::side::{One, type_with};
-use arrays::{Array, IntType, Integer, View, ViewType};
+use arrays::{Array, IntType, Integer, View, ViewType, with_integer};
 use colbits::NoMemory;
 use pairs::{Bools, Numbers, Pairs, PlainTexts, Shown};
 use std::alloc::Global;
 use truths::{BothValid, Truths, array_of};
-use types::with_integer;
 use wanted::Wanted;
 
 /// A comparison.

@@ -13,3 +13,4 @@ pub use comparison::{CmpOp, compare, compare_number};
 pub use fault::KernelFault;
 pub use kleene::{kleene_and, kleene_not, kleene_or};
 pub use nulls::is_null;
+pub use truths::{BothValid, Truths, array_of};

@@ -6,7 +6,7 @@ ghost use Rattle.arrays.specs.Seen.{valid_at, valid_in};
 ghost use Rattle.arrays.specs.Slot.{holds_at};
 ghost use Rattle.kernels.specs.Nulls.{nulls};
 ghost use Rattle.arrays.specs.Shown.{shown};
-ghost use Rattle.types.specs.Limits.{most_slots};
+ghost use Rattle.arrays.specs.Limits.{most_slots};
 
 use crate::fault::KernelFault;
 use arrays::validity::{is_valid, valid_lanes, valid_word};

@@ -6,7 +6,7 @@ ghost use Rattle.std.specs.List.{IsDistinct, list_any};
 ghost use Rattle.keys.specs.CodeSets.{place_end};
 
 use crate::part::NEAR;
-use colbits::NoMemory;
+use arrays::NoMemory;
 use std::alloc::Global;
 use std::marker::Model;
 

@@ -12,8 +12,7 @@ use crate::columns::KeyColumns;
 use crate::key_set::KeySet;
 use crate::memo::{Memo, recall_entry, recall_row};
 use crate::part::place_of;
-use arrays::View;
-use colbits::NoMemory;
+use arrays::{NoMemory, View};
 
 /// Puts the id of each row's key there, whose one item is the row's in this column.
 pub(crate) fn intern_codes(

@@ -3,8 +3,8 @@
 ghost use Rattle.std.specs.Prelude.{◌≡◌, ◌<◌, ◌≤◌, All, None, length, slice_index_or};
 ghost use Rattle.arrays.specs.Batch.{row_of};
 ghost use Rattle.arrays.specs.Item.{null};
-ghost use Rattle.query.specs.Columns.{sort_at};
-ghost use Rattle.query.specs.Fault.{key_fault};
+ghost use Rattle.evaluate.specs.CalledColumns.{sort_at};
+ghost use Rattle.evaluate.specs.FirstFault.{key_fault};
 ghost use Rattle.group.specs.Scalars.{item_of_ref};
 
 use arrays::RecordBatch;

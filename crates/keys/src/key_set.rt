@@ -18,9 +18,8 @@ use crate::key_texts::KeyTexts;
 use crate::part::Part;
 use crate::part_set::{PartSet, Stored};
 use crate::text_set::TextSet;
-use arrays::{OffsetWidth, View};
+use arrays::{NoMemory, OffsetWidth, View};
 use arrayvec::ArrayVec;
-use colbits::NoMemory;
 use group::{Scalar, ScalarRef};
 use std::alloc::Global;
 use std::marker::Model;
@@ -37,7 +36,7 @@ impl<'a> Model for KeySet<'a> {
     ghost use Rattle.std.specs.Prelude.{List, length};
     ghost use Rattle.std.specs.Coded.{coded_list};
     ghost use Rattle.arrays.specs.Item.{Item};
-    ghost use Rattle.layout.specs.Code.{items_code};
+    ghost use Rattle.arrays.specs.SeenCode.{items_code};
     ghost use Rattle.keys.specs.Parts.{AreWithin, keys_shown};
     ghost use Rattle.keys.specs.PartSets.{parts_shown};
 

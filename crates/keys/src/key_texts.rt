@@ -7,7 +7,7 @@ ghost use Rattle.std.specs.Str.{bytes_eq};
 ghost use mathlib.Core.List.{IsPrefix};
 
 use crate::text_set::TextSet;
-use colbits::NoMemory;
+use arrays::NoMemory;
 use std::alloc::Global;
 use std::marker::Model;
 

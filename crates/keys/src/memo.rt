@@ -8,8 +8,7 @@ ghost use Rattle.keys.specs.Memo.{IsInterned, IsRemembered, KnowsEntries, Rememb
 
 use crate::columns::KeyColumns;
 use crate::key_set::KeySet;
-use arrays::{View, ViewType};
-use colbits::NoMemory;
+use arrays::{NoMemory, View, ViewType};
 use evaluate::column::column_at;
 use std::alloc::Global;
 

@@ -9,9 +9,7 @@ ghost use Rattle.keys.specs.Memo.{AreKeys, IsInterned, Remembers};
 use crate::columns::KeyColumns;
 use crate::key_set::KeySet;
 use crate::memo::{Memo, recall_row};
-use arrays::{Integer, View, ViewType};
-use colbits::NoMemory;
-use types::with_integer;
+use arrays::{Integer, NoMemory, View, ViewType, with_integer};
 
 /// Puts the id of each row's key there, whose one item is the row's in this column.
 pub(crate) fn intern_numbers(

@@ -4,7 +4,7 @@ ghost use Rattle.std.specs.Prelude.{◌≡◌, OnOk};
 ghost use Rattle.keys.specs.Keys.{AreIds, with_keys};
 
 use crate::key_set::KeySet;
-use colbits::NoMemory;
+use arrays::NoMemory;
 
 /// Puts the id of each key of the other set in place of what was there. A key that is new is put at the end.
 pub fn intern_keys(

@@ -7,8 +7,8 @@ ghost use Rattle.keys.specs.PartSets.{one, parts_listed, parts_of_code, parts_sh
 
 use crate::code_set::CodeSet;
 use crate::part::{Part, code_of, part_of_code};
+use arrays::NoMemory;
 use arrayvec::ArrayVec;
-use colbits::NoMemory;
 use indexmap::IndexSet;
 use std::alloc::Global;
 

@@ -9,8 +9,7 @@ use crate::columns::KeyColumns;
 use crate::key_set::KeySet;
 use crate::memo::Memo;
 use crate::numbers::intern_numbers;
-use arrays::ViewType;
-use colbits::NoMemory;
+use arrays::{NoMemory, ViewType};
 use evaluate::column::column_at;
 
 /// Puts the id of each row's key in place of what was there. A key that is new is put at the end.

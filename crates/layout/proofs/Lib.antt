@@ -1,4 +1,4 @@
-pub mod ListLemmas
+pub mod RangeLists
 pub mod SeenLemmas
 pub mod RowLemmas
 pub mod FirstFaultLemmas

@@ -6,7 +6,7 @@ use Rattle.std.specs.Bool.{then_some}
 use Rattle.types.specs.First.{first}
 use Rattle.types.specs.declared.offset_width.OffsetWidth.{OffsetWidth}
 use Rattle.types.specs.Kind.{Kind, int, boolean, texts, utf8, lists, dict, bytes_of, depth, same_kind}
-use Rattle.types.specs.OffsetWidth.{size_of}
+use Rattle.types.specs.OffsetSize.{size_of}
 use Rattle.types.specs.Number.{is_negative}
 use Rattle.layout.specs.Layout.{Buffers, buffer_at, bytes_at, is_valid, offset_at, code_at}
 use Rattle.layout.specs.Offsets.{slot_at, start_at}

@@ -8,4 +8,4 @@ pub mod Reading
 pub mod Checked
 pub mod Offsets
 pub mod Inner
-pub mod Code
+pub mod SeenCode

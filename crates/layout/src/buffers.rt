@@ -8,7 +8,7 @@ ghost use Rattle.layout.specs.Inner.{HasOffsets};
 ghost use Rattle.layout.specs.Layout.{bytes_at, buffer_at, is_valid};
 ghost use Rattle.layout.specs.Offsets.{slot_at, start_at};
 ghost use Rattle.types.specs.Number.{number_at};
-ghost use Rattle.types.specs.OffsetWidth.{offset_type};
+ghost use Rattle.types.specs.OffsetSize.{offset_type};
 
 use colbits::Buffer;
 use types::OffsetWidth;

@@ -9,7 +9,7 @@ ghost use Rattle.types.specs.Kind.{kind_of};
 ghost use Rattle.layout.specs.Fault.{bad_code_row, bad_text_row, decreasing_row, does_count_differ, has_negative_offset, is_data_short, is_no_code, is_no_text, is_past_end, is_validity_short, least_row, null_count};
 ghost use Rattle.layout.specs.Offsets.{slot_at};
 ghost use Rattle.types.specs.Number.{is_negative, number_at};
-ghost use Rattle.types.specs.OffsetWidth.{offset_type};
+ghost use Rattle.types.specs.OffsetSize.{offset_type};
 ghost use Rattle.std.specs.Str.{is_utf8};
 ghost use Rattle.layout.specs.Layout.{buffer_at, bytes_at};
 

@@ -15,18 +15,18 @@ use Rattle.arrays.specs.File.{File}
 use Rattle.arrays.specs.First.{first}
 use Rattle.arrays.specs.Shape.{FieldShape}
 use mathlib.Core.List.{IsPrefix}
-use Rattle.histories.proofs.PrefixLemmas.{prefix_length, prefix_trans}
+use Rattle.shared.proofs.PrefixLemmas.{prefix_length, prefix_trans}
 use Rattle.shared.specs.Hand.{Hand, HasAdded, HasSeen, HasAddedNothing, IsLeft, calls_of_hand, rows_of_hand}
 use Rattle.shared.specs.Known.{IsBeginning, IsLegalKnown, Known}
 use Rattle.shared.specs.Left.{Left}
 use Rattle.shared.proofs.SeenLemmas.{added_raised}
 use Rattle.shared.proofs.KnownLemmas.{begins_self, begins_trans, last_typed, wide_again}
-use Rattle.table.specs.Cause.{IsLegal, IsTableOf, cause, difference}
-use Rattle.table.specs.History.{History, rows}
-use Rattle.table.specs.Widened.{widened}
-use Rattle.table.proofs.WidenedLemmas.{widened-again, widened-append}
-use Rattle.table.specs.declared.refusal.Refusal.{Refusal}
-use Rattle.table.specs.declared.refusal.Refusal.TheVariants.{SchemaDiffers}
+use Rattle.shared.specs.Cause.{IsLegal, IsTableOf, cause, difference}
+use Rattle.shared.specs.History.{History, rows}
+use Rattle.shared.specs.Widened.{widened}
+use Rattle.shared.proofs.WidenedLemmas.{widened-again, widened-append}
+use Rattle.shared.specs.Refusal.{Refusal}
+use Rattle.shared.specs.Refusals.{SchemaDiffers}
 use Rattle.loads.specs.Loaded.{HasLast, IsIdle, IsNewest, IsStoppedAt, Loaded, StandsFor, batches_of_files, pairs_of}
 use Rattle.loads.specs.Plan.{planned}
 

@@ -8,7 +8,7 @@ use Rattle.arrays.specs.Batch.{Batch}
 use Rattle.shared.specs.Hand.{Hand, IsLeft, calls_of_hand}
 use Rattle.shared.specs.Known.{Known}
 use Rattle.shared.specs.Left.{Left}
-use Rattle.table.specs.History.{History}
+use Rattle.shared.specs.History.{History}
 use Rattle.loads.proofs.LoadLemmas.{loaded_left}
 use Rattle.loads.specs.Loaded.{AllLoaded, AreRun, HasLast, IsLoadedBy, IsNewest, IsRun, IsStoppedAt, Loaded, before_stop, outcome_of}
 use Rattle.loads.specs.Report.{AllFinished, AreNewest, last_receipts, seen_by_worker}

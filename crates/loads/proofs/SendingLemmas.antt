@@ -9,7 +9,7 @@ use Rattle.arrays.proofs.SendingLemmas.{file-sync}
 use Rattle.arrays.specs.contracts.file.File as file
 use Rattle.loads.specs.contracts.appending.Gated as gated
 use Rattle.loads.specs.contracts.file_loading.FileLoading as loading
-use Rattle.histories.specs.declared.naming.Naming as names
+use Rattle.shared.specs.Naming as names
 use Rattle.shared.proofs.SendingLemmas.{table-sync}
 use Rattle.shared.specs.contracts.shared_table.SharedTable as table
 use Rattle.shared.specs.declared.naming.Naming as naming

@@ -6,12 +6,12 @@ use Rattle.arrays.specs.Shape.{FieldShape}
 use Rattle.shared.specs.Hand.{Hand, HasAdded, calls_of_hand, rows_of_hand}
 use Rattle.shared.specs.Known.{IsBeginning, Known}
 use Rattle.shared.specs.Left.{Left}
-use Rattle.table.specs.Cause.{batch_cause}
-use Rattle.table.specs.History.{History}
-use Rattle.table.specs.Stored.{stored_fields}
-use Rattle.table.specs.Widened.{widened}
-use Rattle.table.specs.declared.refusal.Refusal.{Refusal}
-use Rattle.table.specs.declared.refusal.Refusal.TheVariants.{NoMemory}
+use Rattle.shared.specs.Cause.{batch_cause}
+use Rattle.shared.specs.History.{History}
+use Rattle.shared.specs.Stored.{stored_fields}
+use Rattle.shared.specs.Widened.{widened}
+use Rattle.shared.specs.Refusal.{Refusal}
+use Rattle.shared.specs.Refusals.{NoMemory}
 use Rattle.loads.specs.Plan.{planned}
 
 -- The batches of each file, in order.

@@ -5,7 +5,7 @@ use Rattle.arrays.specs.Batch.{Batch}
 use Rattle.shared.specs.Hand.{Hand, calls_of_hand}
 use Rattle.shared.specs.Known.{Known}
 use Rattle.shared.specs.Left.{Left}
-use Rattle.table.specs.declared.refusal.Refusal.TheVariants as refusal
+use Rattle.shared.specs.Refusals as refusal
 use Rattle.loads.specs.Loaded.{AreRun, Stop}
 use Rattle.loads.specs.declared.fault.LoadFault.{LoadFault}
 use Rattle.loads.specs.declared.fault.LoadFault.TheVariants.{NoMemory, Refused}

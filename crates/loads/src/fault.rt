@@ -1,5 +1,5 @@
+use shared::Refusal;
 use std::alloc::AllocError;
-use table::Refusal;
 use thiserror::Error;
 
 /// Why files aren't loaded as a whole.

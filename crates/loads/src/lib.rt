@@ -11,6 +11,6 @@ pub mod loading;
 mod outcomes;
 mod work;
 
-pub use crews::{Gate, OpenGate};
+pub use crews::{Gate, OpenGate, Task, run_all};
 pub use fault::LoadFault;
 pub use loading::load_all;

@@ -5,7 +5,7 @@ use Rattle.arrays.specs.Lengths.{is_past, text_bytes}
 use Rattle.pool.specs.Texts.{byte_count, is_too_full}
 use Rattle.pool.proofs.TextLemmas.{fits_from, is_too_full-take}
 use Rattle.pool.proofs.UnifyLemmas.{text_bytes-map}
-use Rattle.types.specs.Limits.{most_slots}
+use Rattle.arrays.specs.Limits.{most_slots}
 
 -- its bytes fit where those of all texts do
 pub front_fits : (pool : List (List ℕ)) (items : List Item) (n : ℕ) → items ≡ map text (take n pool) → is_too_full pool ≡ false → is_past (text_bytes items) ≡ false

@@ -10,7 +10,7 @@ use Rattle.pool.specs.Texts.{is_among, is_once, is_too_full, byte_count}
 use Rattle.pool.specs.Pool.{IsPool}
 use Rattle.pool.proofs.TextLemmas.{is_once-push, is_once-take, fits_from, fits_to, is_too_full-take}
 use Rattle.pool.proofs.PlaceLemmas.{list_any-map}
-use Rattle.types.specs.Limits.{most_slots}
+use Rattle.arrays.specs.Limits.{most_slots}
 
 pub map-take : {X Y : Type 0} (f : X → Y) (n : ℕ) (xs : List X) → map f (take n xs) ≡ take n (map f xs)
 map-take f n xs = sym (take-map f n xs)

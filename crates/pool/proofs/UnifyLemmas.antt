@@ -21,7 +21,7 @@ use Rattle.pool.specs.Texts.{text_of, texts_of, firsts, is_among, is_too_full, b
 use Rattle.pool.specs.Unified.{all_texts, codes_among}
 use Rattle.pool.proofs.PlaceLemmas.{position-append, among_place}
 use Rattle.pool.proofs.TextLemmas.{beyond, firsts-append, firsts-once, is_once-firsts, is_among-firsts, is_too_full-append, is_too_full-take, fits_from}
-use Rattle.types.specs.Limits.{most_slots}
+use Rattle.arrays.specs.Limits.{most_slots}
 
 or-right : (a b : Bool) → b ≡ true → (a || b) ≡ true
 or-right true b h = refl

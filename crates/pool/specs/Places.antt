@@ -4,7 +4,7 @@ use Rattle.arrays.specs.Slot.{item_of}
 use Rattle.arrays.specs.Item.{Item, int, null, text}
 use Rattle.pool.specs.Codes.{code_item}
 use Rattle.pool.specs.Texts.{with_text}
-use Rattle.types.specs.Limits.{most_slots}
+use Rattle.arrays.specs.Limits.{most_slots}
 
 -- The texts with that of the item, if it is one, at the end, unless it is among them.
 abbrev pub with_item : List (List ℕ) → Item → List (List ℕ)

@@ -5,7 +5,7 @@ use Rattle.std.specs.Str.{bytes_eq}
 use Rattle.arrays.specs.Item.{Item, text}
 use Rattle.pool.specs.declared.fault.PoolFault.{PoolFault}
 use Rattle.pool.specs.declared.fault.PoolFault.TheVariants.{NoMemory, TextsFull}
-use Rattle.types.specs.Limits.{most_slots}
+use Rattle.arrays.specs.Limits.{most_slots}
 
 -- The bytes of a text, none of an item that is no text.
 abbrev pub text_of : Item → Option (List ℕ)

@@ -5,10 +5,8 @@ ghost use Rattle.arrays.specs.Dictionary.{looked_up};
 ghost use Rattle.arrays.specs.Slot.{item_of};
 
 use arrays::validity::is_valid;
-use arrays::{INT32, View, ViewType};
-use colbits::Bits;
+use arrays::{Bits, INT32, View, ViewType, natural_at};
 use std::marker::Model;
-use types::natural_at;
 
 /// A dictionary-encoded view, whose codes are found once and not at each row.
 #[derive(Drop)]
@@ -20,7 +18,7 @@ pub(crate) struct CodedView<'a, 'b> {
 
 impl<'a, 'b> Model for CodedView<'a, 'b> {
     ghost use Rattle.arrays.specs.Seen.{Seen};
-    ghost use Rattle.layout.specs.Code.{seen_code};
+    ghost use Rattle.arrays.specs.SeenCode.{seen_code};
     ghost use Rattle.pool.specs.CodedViews.{HasCodes};
 
     ghost Value = { Seen };

@@ -5,16 +5,14 @@ ghost use Rattle.arrays.specs.Kind as kind;
 ghost use Rattle.arrays.specs.Shown.{shown};
 ghost use Rattle.pool.specs.Front.{IsFront};
 ghost use Rattle.pool.specs.Texts.{IsPoolFault, is_among, is_once, is_too_full, place_of, with_text};
-ghost use Rattle.types.specs.Limits.{most_slots};
-ghost use Rattle.types.specs.declared.offset_width.OffsetWidth.TheVariants as OffsetWidth;
+ghost use Rattle.arrays.specs.Limits.{most_slots};
+ghost use Rattle.arrays.specs.OffsetWidths as OffsetWidth;
 
 use crate::fault::PoolFault;
-use arrays::{Array, BuildFault, OffsetWidth, TextBuilder, Words};
-use colbits::NoMemory;
+use arrays::{Array, BuildFault, MOST_SLOTS, NoMemory, OffsetWidth, TextBuilder, Words};
 use indexmap::IndexSet;
 use std::alloc::Global;
 use std::marker::Model;
-use types::MOST_SLOTS;
 
 /// Texts in order of coming, each once.
 #[derive(Drop)]

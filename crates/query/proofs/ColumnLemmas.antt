@@ -8,7 +8,7 @@ use Rattle.types.proofs.ShapeLemmas.{kind_of_field-field_of}
 use Rattle.types.specs.Kind.{kind_of}
 use Rattle.types.specs.Shape.{FieldShape, Shape, field_of, field_step, fields_of, name_of, shape_step}
 use Rattle.types.specs.declared.data_type.Field.{Field, fold_out-Field, out-Field}
-use Rattle.query.specs.Columns.{has_name, place_of, sort_at, sort_of_field}
+use Rattle.query.specs.CalledColumns.{has_name, place_of, sort_at, sort_of_field}
 use Rattle.query.specs.Sorts.{sort_of_kind}
 use Rattle.query.specs.declared.fault.QueryFault.TheVariants.{NoColumn}
 

@@ -12,8 +12,8 @@ use Rattle.query.specs.declared.fault.QueryFault.TheVariants.{WrongKind}
 use Rattle.query.specs.declared.sort.Sort.{Sort}
 use Rattle.query.specs.QueryShape.{QueryShape}
 use Rattle.query.specs.Checked.{and_then, checked, all_checked, sort_of_operator}
-use Rattle.query.specs.Columns.{place_of, sort_at, sort_named}
-use Rattle.query.specs.Fault.{agg_fault, fault_unless, filter_fault, fits, is_too_deep, key_fault, query_fault}
+use Rattle.query.specs.CalledColumns.{place_of, sort_at, sort_named}
+use Rattle.query.specs.FirstFault.{agg_fault, fault_unless, filter_fault, fits, is_too_deep, key_fault, query_fault}
 use Rattle.query.specs.Resolved.{renamed, renamed_agg, renamed_query}
 use Rattle.query.specs.Sorts.{is_int, is_plain, is_truth}
 use Rattle.query.specs.Tree.{Tree, column, int, text, op, Trees, none, one}

@@ -17,8 +17,8 @@ use Rattle.query.specs.declared.fault.QueryFault.TheVariants.{AmbiguousColumn, N
 use Rattle.query.specs.declared.sort.Sort.{Sort}
 use Rattle.query.specs.QueryShape.{QueryShape}
 use Rattle.query.specs.Checked.{and_then, checked, all_checked, sort_of_operator}
-use Rattle.query.specs.Columns.{has_name, place_of, sort_at, sort_named, sort_of_field}
-use Rattle.query.specs.Fault.{agg_fault, fault_unless, filter_fault, fits, is_too_deep, key_fault, query_fault}
+use Rattle.query.specs.CalledColumns.{has_name, place_of, sort_at, sort_named, sort_of_field}
+use Rattle.query.specs.FirstFault.{agg_fault, fault_unless, filter_fault, fits, is_too_deep, key_fault, query_fault}
 use Rattle.query.specs.Named.{agg_columns, columns, columns_in, columns_of, columns_of_aggs, filter_columns}
 use Rattle.query.specs.Resolved.{renamed, all_renamed, renamed_agg, renamed_query, resolved, unless_fault}
 use Rattle.query.specs.Sorts.{is_int, is_plain, is_truth}

@@ -3,8 +3,8 @@ pub mod Tree
 pub mod FaultText
 pub mod Sorts
 pub mod Checked
-pub mod Columns
+pub mod CalledColumns
 pub mod QueryShape
-pub mod Fault
+pub mod FirstFault
 pub mod Resolved
 pub mod Named

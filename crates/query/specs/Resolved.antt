@@ -9,8 +9,8 @@ use Rattle.query.specs.declared.fault.QueryFault.{QueryFault}
 use Rattle.query.specs.declared.fault.QueryFault.TheVariants.{TooDeep}
 use Rattle.query.specs.declared.queries.QueryText.{QueryText}
 use Rattle.query.specs.QueryShape.{QueryShape}
-use Rattle.query.specs.Columns.{place_of, sort_named}
-use Rattle.query.specs.Fault.{is_too_deep, query_fault}
+use Rattle.query.specs.CalledColumns.{place_of, sort_named}
+use Rattle.query.specs.FirstFault.{is_too_deep, query_fault}
 use Rattle.query.specs.Tree.{Tree, column, int, text, op, Trees, none, one, tree_of}
 
 -- ---- the same query, its columns called by other names

@@ -2,7 +2,7 @@
 
 ghost use Rattle.std.specs.Prelude.{◌≡◌, count_by, position};
 ghost use Rattle.types.specs.Shape.{field_of, fields_of};
-ghost use Rattle.query.specs.Columns.{has_name, place_of, sort_at, sort_named};
+ghost use Rattle.query.specs.CalledColumns.{has_name, place_of, sort_at, sort_named};
 
 use crate::check::Column;
 use crate::fault::QueryFault;
@@ -10,7 +10,7 @@ use crate::sort::{Sort, sort_of_type};
 use types::{Field, Schema};
 
 impl Column for u32 {
-    ghost use Rattle.query.specs.Columns.{sort_at};
+    ghost use Rattle.query.specs.CalledColumns.{sort_at};
 
     ghost sort_in = { sort_at };
 
@@ -21,7 +21,7 @@ impl Column for u32 {
 
 impl Column for String {
     ghost use Rattle.std.specs.Prelude.{string_bytes};
-    ghost use Rattle.query.specs.Columns.{sort_named};
+    ghost use Rattle.query.specs.CalledColumns.{sort_named};
 
     ghost sort_in = { λ fields name. sort_named fields (string_bytes name) };
 

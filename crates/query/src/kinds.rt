@@ -4,7 +4,7 @@ ghost use Rattle.std.specs.Prelude.{◌≡◌, map, option_map, Some, None, if�
 ghost use Rattle.std.specs.Result.{result_err};
 ghost use Rattle.types.specs.First.{first};
 ghost use Rattle.query.specs.declared.fault.QueryFault.TheVariants.{WrongKind};
-ghost use Rattle.query.specs.Fault.{agg_fault, filter_fault, is_too_deep, key_fault, query_fault};
+ghost use Rattle.query.specs.FirstFault.{agg_fault, filter_fault, is_too_deep, key_fault, query_fault};
 ghost use Rattle.query.specs.Tree.{tree_of};
 
 use crate::check::{Column, checked};

@@ -4,8 +4,8 @@ ghost use Rattle.std.specs.Prelude.{◌≡◌, ◌==◌, ℕ, List, Ok, Err, tru
 ghost use Rattle.std.specs.List.{list_all, list_any};
 ghost use Rattle.types.specs.Shape.{FieldShape};
 ghost use Rattle.query.specs.QueryShape.{QueryShape};
-ghost use Rattle.query.specs.Columns.{has_name, place_of};
-ghost use Rattle.query.specs.Fault.{fits};
+ghost use Rattle.query.specs.CalledColumns.{has_name, place_of};
+ghost use Rattle.query.specs.FirstFault.{fits};
 ghost use Rattle.query.specs.Named.{columns};
 ghost use Rattle.query.specs.Resolved.{resolved};
 ghost use Rattle.query.specs.declared.fault.QueryFault.TheVariants.{AmbiguousColumn, NoColumn};

@@ -3,8 +3,8 @@
 ghost use Rattle.std.specs.Prelude.{◌≡◌, ◌⊎◌, true, map, option_map, IfOk, IfErr, IsOk, Ok, Err};
 ghost use Rattle.types.specs.Shape.{fields_of};
 ghost use Rattle.query.specs.QueryShape.{query_shape};
-ghost use Rattle.query.specs.Columns.{place_of};
-ghost use Rattle.query.specs.Fault.{fits};
+ghost use Rattle.query.specs.CalledColumns.{place_of};
+ghost use Rattle.query.specs.FirstFault.{fits};
 ghost use Rattle.query.specs.Resolved.{named, place_in, renamed, renamed_agg, renamed_query, resolved, written};
 ghost use Rattle.query.specs.Tree.{tree_of};
 

@@ -2,7 +2,7 @@
 
 ghost use Rattle.std.specs.Prelude.{◌≡◌};
 ghost use Rattle.query.specs.QueryShape.{query_shape};
-ghost use Rattle.query.specs.Fault.{fits};
+ghost use Rattle.query.specs.FirstFault.{fits};
 
 use crate::expr::{Agg, Expr};
 use crate::kinds::{check_parts, is_too_deep};

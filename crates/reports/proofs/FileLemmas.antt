@@ -8,9 +8,9 @@ use Rattle.arrays.specs.File.{File}
 use Rattle.arrays.specs.Item.{Item, null}
 use Rattle.arrays.specs.Seen.{Seen}
 use Rattle.arrays.specs.Shape.{FieldShape}
-use Rattle.json_read.specs.JsonFile.{AreUnder, file_of}
-use Rattle.json_base.specs.JsonTable as read
-use Rattle.json_base.specs.JsonTable.{FileData, table_of}
+use Rattle.arrow_json.specs.JsonFile.{AreUnder, file_of}
+use Rattle.arrow_json.specs.JsonTable as read
+use Rattle.arrow_json.specs.JsonTable.{FileData, table_of}
 use Rattle.reports.specs.FileBatches.{FileBatch, batch_of, batches_with_fields}
 
 rows_of_table : (b : Batch) → read.rows_of (table_of b) ≡ batch.rows_of b

@@ -6,8 +6,8 @@ use Rattle.std.proofs.lemmas.Grind.{common_steps}
 use Rattle.std.proofs.lemmas.List.{append-nil, length-map, map-append, take_more}
 use Rattle.std.specs.List.{join_with_byte}
 use Rattle.arrays.specs.Item.{Item}
-use Rattle.group.specs.Scalars.{item_of_scalar}
-use Rattle.group.specs.declared.stats.Scalar.{Scalar}
+use Rattle.table.specs.Scalars.{item_of_scalar}
+use Rattle.table.specs.Scalar.{Scalar}
 
 -- two lists of pieces, one behind the other
 joined : (c : ℕ) (xs ys : List (List ℕ)) → 0 < length xs → 0 < length ys → join_with_byte c (xs ++ ys) ≡ join_with_byte c xs ++ c ∷ join_with_byte c ys

@@ -5,10 +5,10 @@ use Rattle.std.proofs.lemmas.Slice.Zip.{AllZip-long}
 use Rattle.std.specs.Prelude.{◌⊎◌}
 use Rattle.std.specs.List.{AllByRecursion, AllZip}
 use Rattle.arrays.specs.File.{File}
-use Rattle.json_read.specs.JsonFile.{AreUnder, BytesFault}
-use Rattle.json_base.specs.JsonFault.{Tells, stands, wants}
-use Rattle.json_base.specs.declared.fault.JsonFault.{JsonFault}
-use Rattle.json_base.specs.declared.fault.JsonFaultKind.TheVariants.{NoMemory as wanting}
+use Rattle.arrow_json.specs.JsonFile.{AreUnder, BytesFault}
+use Rattle.arrow_json.specs.FaultAt.{Tells, stands, wants}
+use Rattle.arrow_json.specs.JsonFault.{JsonFault}
+use Rattle.arrow_json.specs.JsonFaultKinds.{NoMemory as wanting}
 use Rattle.reports.specs.Parsed.{AddsFiles, IsFirstUnread, IsParsed, IsTextOf, StopsParsing}
 use Rattle.reports.specs.declared.run_fault.FileFault.TheVariants.{Json}
 use Rattle.reports.specs.declared.run_fault.RunFault.{RunFault}

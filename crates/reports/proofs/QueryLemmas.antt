@@ -2,10 +2,10 @@
 use Rattle.std.proofs.Common.{◌≡◌, ◌∙◌, ℕ, List, Result, Ok, Err, IfOk, IfErr, inl, inr, ap, sym, subst}
 use Rattle.std.specs.Prelude.{◌⊎◌}
 use Rattle.arrays.specs.Shape.{FieldShape}
-use Rattle.query.specs.QueryShape.{QueryShape}
-use Rattle.query.specs.Resolved.{resolved}
-use Rattle.query.specs.declared.fault.QueryFault.{QueryFault}
-use Rattle.query.specs.declared.fault.QueryFault.TheVariants as fault
+use Rattle.table.specs.QueryShape.{QueryShape}
+use Rattle.table.specs.Resolved.{resolved}
+use Rattle.table.specs.QueryFault.{QueryFault}
+use Rattle.table.specs.QueryFaults as fault
 use Rattle.table.specs.History.{History}
 use Rattle.reports.specs.Queried.{PrintsGroups, PrintsPlaced, RefusesGroups, at_row, under_fields}
 use Rattle.reports.specs.QueryFaults.{IsUnanswered, IsUnplaced}

@@ -9,12 +9,12 @@ use Rattle.std.proofs.lemmas.List.FromFn.{map-range_with_len_more}
 use Rattle.std.proofs.lemmas.Option.{slice_get-get_or, slice_get-map}
 use Rattle.arrays.specs.Item.{Item}
 use Rattle.arrays.specs.Shape.{FieldShape, Shape, field_of, field_step, fields_of, is_nullable, kind_of_field, name_of, shape_step}
-use Rattle.types.specs.declared.data_type.Field.{Field, fold_out-Field, out-Field}
-use Rattle.types.specs.Kind.{kind_of}
-use Rattle.types.proofs.ShapeLemmas.{kind_of_field-field_of}
-use Rattle.group.specs.Stats.{least_of, nulls_of, sum_of}
-use Rattle.group.specs.Summary.{AreStats, scalar_item}
-use Rattle.group.specs.declared.stats.ColumnStats.{ColumnStats}
+use Rattle.arrays.specs.Field.{Field, fold_out-Field, out-Field}
+use Rattle.arrays.specs.Kind.{kind_of}
+use Rattle.arrays.proofs.ShapeLemmas.{kind_of_field-field_of}
+use Rattle.table.specs.Stats.{least_of, nulls_of, sum_of}
+use Rattle.table.specs.Summary.{AreStats, scalar_item}
+use Rattle.table.specs.ColumnStats.{ColumnStats}
 use Rattle.reports.specs.Fields.{schema_line, schema_lines}
 use Rattle.reports.specs.Shown.{worker_lines, worker_line, column_line, column_lines, field_line}
 use Rattle.arrays.specs.Batch.{Table, column}

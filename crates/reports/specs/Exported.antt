@@ -3,10 +3,10 @@ use Rattle.std.specs.Prelude.{ℕ, List, length, map}
 use Rattle.std.specs.List.{range_with_len}
 use Rattle.arrays.specs.Batch as batch
 use Rattle.arrays.specs.Shape.{FieldShape}
-use Rattle.json_base.specs.JsonTable.{Table}
-use Rattle.json_print.specs.Text.{document}
+use Rattle.arrow_json.specs.JsonTable.{Table}
+use Rattle.arrow_json.specs.Text.{document}
 use Rattle.ends.specs.Line.{line}
-use Rattle.serde_json.specs.Written.{compact_text}
+use Rattle.arrow_json.specs.Written.{compact_text}
 use Rattle.table.specs.History.{History}
 
 -- What one call added, column by column under the fields.

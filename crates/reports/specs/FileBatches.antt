@@ -3,7 +3,7 @@ use Rattle.std.specs.Prelude.{List, [], ◌∷◌, map}
 use Rattle.arrays.specs.Batch as batch
 use Rattle.arrays.specs.Batch.{Batch}
 use Rattle.arrays.specs.Shape.{FieldShape}
-use Rattle.json_base.specs.JsonTable.{FileData, rows_of}
+use Rattle.arrow_json.specs.JsonTable.{FileData, rows_of}
 use Rattle.table.specs.Stored.{stored_fields}
 
 -- A batch of a file: the fields of the file, and the rows.

@@ -1,4 +1,5 @@
 -- The words of this crate's contracts.
+pub use Rattle.ends.specs.Line
 pub mod RefusalText
 pub mod Shown
 pub mod Csv

@@ -2,12 +2,12 @@
 use Rattle.std.specs.Prelude.{ℕ, List, ◌++◌, ◌||◌, ◌==◌, chars, codes, cond, encode_utf8, flat_map, nat_lt}
 use Rattle.std.specs.Fmt.{decimal}
 use Rattle.ends.specs.Line.{message}
-use Rattle.json.specs.Print.{escape_byte}
+use Rattle.arrow_json.specs.Print.{escape_byte}
 use Rattle.reports.specs.RefusalText.{refusal_text}
-use Rattle.json_base.specs.JsonFaultText.{fault_text}
+use Rattle.arrow_json.specs.JsonFaultText.{fault_text}
 use Rattle.table.specs.declared.refusal.Refusal.{Refusal}
-use Rattle.json_base.specs.declared.path.Step.{Step}
-use Rattle.json_base.specs.declared.fault.JsonFaultKind.{JsonFaultKind}
+use Rattle.arrow_json.specs.Step.{Step}
+use Rattle.arrow_json.specs.JsonFaultKind.{JsonFaultKind}
 
 -- A character of a file's name as it is reported: a control character and the backslash as in a JSON string, any other as it is.
 -- (RFC 8259, 7. Strings; U+007F, which may stand there as it is, is reported so too)

@@ -2,9 +2,9 @@
 use Rattle.std.specs.Prelude.{◌≡◌, ◌+◌, ◌++◌, ◌∷◌, ℕ, List, MatchResult, Result, length, ⊤}
 use Rattle.std.specs.List.{AllZip}
 use Rattle.arrays.specs.File.{File}
-use Rattle.json_read.specs.JsonFile.{AreUnder, BytesFault, Reads, file_of}
-use Rattle.json_base.specs.JsonFault.{Tells}
-use Rattle.json_base.specs.declared.fault.JsonFault.{JsonFault}
+use Rattle.arrow_json.specs.JsonFile.{AreUnder, BytesFault, Reads, file_of}
+use Rattle.arrow_json.specs.FaultAt.{Tells}
+use Rattle.arrow_json.specs.JsonFault.{JsonFault}
 use Rattle.reports.specs.declared.run_fault.FileFault.TheVariants.{CannotRead, Json, Refused}
 use Rattle.reports.specs.declared.run_fault.RunFault.{RunFault}
 use Rattle.reports.specs.declared.run_fault.RunFault.TheVariants.{NoMemory, OfColumn, OfFile, QueryUnread, QueryRefused}

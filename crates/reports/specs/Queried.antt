@@ -1,11 +1,11 @@
 -- What a query prints of a table, and why it prints nothing.
 use Rattle.std.specs.Prelude.{◌≡◌, ℕ, List, Ok, Err}
-use Rattle.answers.specs.Groups.{GroupShape, groups}
+use Rattle.table.specs.Groups.{GroupShape, groups}
 use Rattle.arrays.specs.Shape.{FieldShape}
-use Rattle.query.specs.QueryShape.{QueryShape}
-use Rattle.query.specs.Resolved.{resolved}
-use Rattle.query.specs.declared.fault.QueryFault.{QueryFault}
-use Rattle.query.specs.declared.fault.QueryFault.TheVariants.{Overflow}
+use Rattle.table.specs.QueryShape.{QueryShape}
+use Rattle.table.specs.Resolved.{resolved}
+use Rattle.table.specs.QueryFault.{QueryFault}
+use Rattle.table.specs.QueryFaults.{Overflow}
 use Rattle.table.specs.History.{History, rows}
 use Rattle.reports.specs.GroupLines.{group_lines}
 

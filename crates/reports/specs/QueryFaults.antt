@@ -1,10 +1,10 @@
 -- Faults of a query: of its text, and over a table.
 use Rattle.std.specs.Prelude.{◌≡◌, ℕ, List, Err, ⊤}
-use Rattle.answers.specs.Groups.{groups}
+use Rattle.table.specs.Groups.{groups}
 use Rattle.arrays.specs.Shape.{FieldShape}
-use Rattle.json_query.specs.QueryDocumentFault.{QueryBytesFault}
-use Rattle.query.specs.QueryShape.{QueryShape}
-use Rattle.query.specs.declared.fault.QueryFault.TheVariants.{Overflow}
+use Rattle.arrow_json.specs.QueryDocumentFault.{QueryBytesFault}
+use Rattle.table.specs.QueryShape.{QueryShape}
+use Rattle.table.specs.QueryFaults.{Overflow}
 use Rattle.table.specs.History.{History, rows}
 use Rattle.reports.specs.Queried.{RefusesGroups}
 use Rattle.reports.specs.declared.run_fault.RunFault.{RunFault}

@@ -2,11 +2,11 @@
 use Rattle.std.specs.Prelude.{ℕ, ℤ, List, [], ◌∷◌, ◌++◌, length, Bool, true, false, Option, Some, None, codes}
 use Rattle.std.specs.List.{enumerate_from, range_with_len, flat_map, join_with_byte}
 use Rattle.std.specs.Fmt.{decimal, signed_decimal}
-use Rattle.json.specs.Print.{quoted}
+use Rattle.arrow_json.specs.Print.{quoted}
 use Rattle.ends.specs.Line.{line}
-use Rattle.types.specs.declared.int_type.Width.{Width}
-use Rattle.types.specs.declared.int_type.Width.TheVariants.{W8, W16, W32, W64}
-use Rattle.json_print.specs.SchemaData.{list_name, text_name}
+use Rattle.arrays.specs.Width.{Width}
+use Rattle.arrays.specs.Widths.{W8, W16, W32, W64}
+use Rattle.arrow_json.specs.SchemaData.{list_name, text_name}
 use Rattle.arrays.specs.Item as item
 use Rattle.arrays.specs.Item.{Item, Items}
 use Rattle.arrays.specs.Kind as kind
@@ -14,7 +14,7 @@ use Rattle.arrays.specs.Kind.{Kind}
 use Rattle.arrays.specs.Shape.{FieldShape, kind_of_field, name_of}
 use Rattle.arrays.specs.Batch.{Table, column}
 use Rattle.table.specs.History.{History, rows, of}
-use Rattle.group.specs.Stats.{nulls_of, sum_of, least_of, greatest_of}
+use Rattle.table.specs.Stats.{nulls_of, sum_of, least_of, greatest_of}
 
 -- ---- lines over plain numbers and texts
 

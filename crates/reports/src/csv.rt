@@ -3,16 +3,15 @@ ghost use Rattle.std.specs.Prelude.{◌≡◌, ◌∷◌, ◌++◌, ◌<◌, IfO
 ghost use Rattle.std.specs.Str.{chars};
 ghost use Rattle.std.specs.Prelude.{flat_map};
 ghost use Rattle.std.specs.List.{join_with_byte, list_any};
-ghost use Rattle.group.specs.Summary.{scalar_item};
-ghost use Rattle.query.specs.Resolved.{named, renamed_agg};
+ghost use Rattle.table.specs.Summary.{scalar_item};
+ghost use Rattle.table.specs.Resolved.{named, renamed_agg};
 ghost use Rattle.reports.specs.Csv.{csv_cell, csv_text, doubled_char, is_quoted, is_special};
 ghost use Rattle.reports.specs.GroupLines.{agg_label, column_names, names_record};
 
 use crate::text::{push_number, push_truth};
-use colbits::NoMemory;
-use group::Scalar;
-use query::{Agg, QueryText};
+use arrays::NoMemory;
 use std::alloc::{AllocError, Global};
+use table::{Agg, QueryText, Scalar};
 
 /// Adds the record of the names of what a query asks for.
 pub(crate) fn push_names(

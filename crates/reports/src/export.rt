@@ -3,8 +3,8 @@ ghost use Rattle.std.specs.Prelude.{◌≡◌, OnOk, IfOk, string_bytes};
 ghost use Rattle.reports.specs.Exported.{exported};
 ghost use Rattle.table.specs.Cause.{IsLegal};
 
-use colbits::NoMemory;
-use json_print::print_file;
+use arrays::NoMemory;
+use arrow_json::print_file;
 use std::alloc::Global;
 use table::Version;
 

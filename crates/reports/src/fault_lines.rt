@@ -7,11 +7,10 @@ ghost use Rattle.reports.specs.FaultLine.{column_fault_text, fault_line, line_un
 use crate::name::push_name;
 use crate::refusal::refusal_text;
 use crate::run_fault::{ColumnFault, FileFault, RunFault};
-use colbits::NoMemory;
-use json_base::{JsonFault, fault_text};
-use query::query_fault_text;
+use arrays::NoMemory;
+use arrow_json::{JsonFault, fault_text};
 use std::alloc::Global;
-use table::{AddFault, Refusal};
+use table::{AddFault, Refusal, query_fault_text};
 
 /// The line of a fault, with the name of its file where it is one of a file; that memory ran out has one that takes none.
 pub fn line_of(alloc: Global, name: &str, fault: &RunFault) -> Result<String, NoMemory>

@@ -1,20 +1,18 @@
 //! The groups of an answer as text: as lines, as arrays of JSON, or as records of CSV.
 ghost use Rattle.std.specs.Prelude.{◌≡◌, ◌++◌, ◌<◌, IfOk, OnOk, map, string_bytes};
 ghost use Rattle.std.specs.List.{join_with_byte};
-ghost use Rattle.group.specs.Scalars.{item_of_scalar};
-ghost use Rattle.answers.specs.Answers.{group_shape};
-ghost use Rattle.query.specs.Resolved.{named};
+ghost use Rattle.table.specs.Scalars.{item_of_scalar};
+ghost use Rattle.table.specs.Answers.{group_shape};
+ghost use Rattle.table.specs.Resolved.{named};
 ghost use Rattle.reports.specs.Csv.{csv_cell};
 ghost use Rattle.reports.specs.GroupLines.{group_array, group_arrays, group_line, group_lines, group_record, group_records, group_text, spell};
 ghost use Rattle.reports.specs.Shown.{cell};
 
 use crate::csv::{push_byte, push_names, push_scalar_field};
 use crate::text::push_scalar;
-use answers::{Answer, Group};
-use colbits::NoMemory;
-use group::Scalar;
-use query::QueryText;
+use arrays::NoMemory;
 use std::alloc::Global;
+use table::{Answer, Group, QueryText, Scalar};
 
 /// How an item is spelled.
 #[derive(Clone, Copy)]

@@ -1,20 +1,18 @@
 //! The output of `query`.
 ghost use Rattle.std.specs.Prelude.{◌≡◌, ℕ, IfErr, IfOk, List, Ok, string_bytes, true};
-ghost use Rattle.answers.specs.Answers.{IsAnswer, IsRefusal};
+ghost use Rattle.table.specs.Answers.{IsAnswer, IsRefusal};
 ghost use Rattle.arrays.specs.Shape.{FieldShape};
-ghost use Rattle.query.specs.QueryShape.{QueryShape, query_shape};
-ghost use Rattle.query.specs.Fault.{fits};
-ghost use Rattle.query.specs.Resolved.{named, resolved};
+ghost use Rattle.table.specs.QueryShape.{QueryShape, query_shape};
+ghost use Rattle.table.specs.FirstFault.{fits};
+ghost use Rattle.table.specs.Resolved.{named, resolved};
 ghost use Rattle.reports.specs.Queried.{PrintsGroups, PrintsPlaced};
 ghost use Rattle.reports.specs.QueryFaults.{IsUnanswered, IsUnplaced};
 ghost use Rattle.table.specs.History.{History, rows};
 
 use crate::forms::group_lines;
 use crate::run_fault::RunFault;
-use answers::{Answer, Gate};
-use query::{Query, QueryFault, QueryText, resolve};
 use std::alloc::Global;
-use table::Version;
+use table::{Answer, Gate, Query, QueryFault, QueryText, Version, resolve};
 
 /// The gate of the one who answers alone. No piece waits at it, and nobody else could have a turn: a library for C links nothing that gives
 /// one, as `OpenGate` does.

@@ -11,8 +11,7 @@ ghost use Rattle.reports.specs.Shown.{array_text, cell};
 
 use crate::csv::push_byte;
 use crate::text::{push_null, push_number, push_string, push_truth};
-use arrays::{Array, Field, RecordBatch, View, ViewType};
-use colbits::NoMemory;
+use arrays::{Array, Field, NoMemory, RecordBatch, View, ViewType};
 use std::alloc::Global;
 use table::Version;
 

@@ -1,14 +1,13 @@
 //! Queries that are read from their texts.
 ghost use Rattle.std.specs.Prelude.{IfErr, IfOk};
-ghost use Rattle.json_query.specs.QueryDocument.{ReadsQueryText};
-ghost use Rattle.query.specs.Resolved.{named};
+ghost use Rattle.arrow_json.specs.QueryDocument.{ReadsQueryText};
+ghost use Rattle.table.specs.Resolved.{named};
 ghost use Rattle.reports.specs.QueryFaults.{IsUnreadQuery};
 
 use crate::run_fault::RunFault;
-use json_base::JsonFaultKind;
-use json_query::read_query;
-use query::QueryText;
+use arrow_json::{JsonFaultKind, read_query};
 use std::alloc::Global;
+use table::QueryText;
 
 /// The query that the bytes are read as, or why they aren't.
 pub fn read_query_text(alloc: Global, bytes: &[u8]) -> Result<QueryText, RunFault>

@@ -2,7 +2,7 @@
 ghost use Rattle.std.specs.Prelude.{◌≡◌, IfOk, string_bytes};
 ghost use Rattle.reports.specs.RefusalText.{refusal_text};
 
-use colbits::NoMemory;
+use arrays::NoMemory;
 use std::alloc::Global;
 pub use table::Refusal;
 

@@ -3,16 +3,14 @@ ghost use Rattle.arrays.specs.Item.{Item};
 ghost use Rattle.std.specs.Prelude.{List, ◌≡◌, ◌++◌, length, OnOk, IfOk, string_bytes};
 ghost use Rattle.arrays.specs.Shape.{field_of, kind_of_field};
 ghost use Rattle.reports.specs.Shown.{stats_text, worker_lines, column_lines, field_line};
-ghost use Rattle.group.specs.Summary.{AreStats};
+ghost use Rattle.table.specs.Summary.{AreStats};
 ghost use Rattle.table.specs.Cause.{IsLegal};
 ghost use Rattle.table.specs.History.{of, rows};
 
 use crate::text::{column_line, push_rows_line, push_worker_line};
-use arrays::Field;
-use colbits::NoMemory;
-use group::ColumnStats;
+use arrays::{Field, NoMemory};
 use std::alloc::Global;
-use table::Version;
+use table::{ColumnStats, Version};
 
 /// What `stats` prints for so many workers and a version of the table that they loaded.
 pub fn stats_text(alloc: Global, workers: u32, version: &Version) -> Result<String, NoMemory>

@@ -1,11 +1,10 @@
 //! Why there is no output.
 ghost use Rattle.std.specs.Prelude.{◌≡◌, ◌≢◌, ◌⊎◌};
 
-use colbits::NoMemory;
-use json_base::{JsonFault, JsonFaultKind};
-use query::QueryFault;
+use arrays::NoMemory;
+use arrow_json::{JsonFault, JsonFaultKind};
 use std::alloc::AllocFailed;
-use table::{AddFault, Refusal};
+use table::{AddFault, QueryFault, Refusal};
 
 /// Why there is no output.
 #[derive(Debug, Drop)]

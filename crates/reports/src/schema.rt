@@ -4,8 +4,7 @@ ghost use Rattle.arrays.specs.Shape.{field_of};
 ghost use Rattle.reports.specs.Fields.{schema_lines};
 
 use crate::text::schema_line;
-use arrays::Field;
-use colbits::NoMemory;
+use arrays::{Field, NoMemory};
 use std::alloc::Global;
 use table::Version;
 

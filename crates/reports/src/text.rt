@@ -1,17 +1,16 @@
 //! The lines of `stats` and of `schema`, as text.
 ghost use Rattle.std.specs.Prelude.{◌≡◌, ◌++◌, OnOk, IfOk, option_map, string_bytes};
 ghost use Rattle.arrays.specs.Item as item;
-ghost use Rattle.types.specs.Kind.{kind_of};
-ghost use Rattle.group.specs.Summary.{scalar_item};
-ghost use Rattle.json.specs.Print.{quoted};
+ghost use Rattle.arrays.specs.Kind.{kind_of};
+ghost use Rattle.table.specs.Summary.{scalar_item};
+ghost use Rattle.arrow_json.specs.Print.{quoted};
 ghost use Rattle.reports.specs.Fields.{schema_line};
 ghost use Rattle.reports.specs.Shown.{cell, column_line, shown_kind, rows_line, sum_text, truth_text, shown_int, value_text, worker_line};
 
-use arrays::{DataType, IntType, Width};
-use colbits::NoMemory;
-use group::{ColumnStats, Scalar};
-use serde_json::Value;
+use arrays::{DataType, IntType, NoMemory, Width};
+use arrow_json::Value;
 use std::alloc::{AllocError, Global};
+use table::{ColumnStats, Scalar};
 
 /// Adds the line that says how many rows there are.
 pub(crate) fn push_rows_line(text: &mut String, rows: u64) -> Result<(), NoMemory>

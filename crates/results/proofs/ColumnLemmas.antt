@@ -4,8 +4,8 @@ use Rattle.std.proofs.lemmas.Bool.{and_parts, false≢true}
 use Rattle.std.proofs.lemmas.List.Folds.{list_all-map}
 use Rattle.std.specs.List.{list_all}
 use Rattle.std.specs.Prelude.{if◌then◌else◌}
-use Rattle.types.specs.declared.offset_width.OffsetWidth.TheVariants.{Wide}
-use Rattle.types.specs.Kind as kind
+use Rattle.arrays.specs.OffsetWidths.{Wide}
+use Rattle.arrays.specs.Kind as kind
 use Rattle.arrays.specs.Item as item
 use Rattle.arrays.specs.Item.{Item}
 use Rattle.arrays.specs.Shown.{shown}

@@ -1,10 +1,10 @@
 -- The type of the column at a place, by its field.
 use Rattle.std.proofs.Common.{◌≡◌, ◌∙◌, ℕ, ◌<◌, ◌≤◌, List, length, get_or, option_map, ap, refl}
 use Rattle.std.proofs.lemmas.Option.{slice_get-map, slice_get_past, slice_get_read}
-use Rattle.types.proofs.ShapeLemmas.{kind_of_field-field_of}
-use Rattle.types.specs.Kind.{kind_of}
-use Rattle.types.specs.Shape.{field_of, fields_of}
-use Rattle.types.specs.declared.data_type.Field.{Field, out-Field}
+use Rattle.arrays.proofs.ShapeLemmas.{kind_of_field-field_of}
+use Rattle.arrays.specs.Kind.{kind_of}
+use Rattle.arrays.specs.Shape.{field_of, fields_of}
+use Rattle.arrays.specs.Field.{Field, out-Field}
 use Rattle.results.specs.Types.{type_at, type_of_field, type_of_kind}
 use Rattle.results.specs.declared.result_type.ResultType.TheVariants.{Text}
 

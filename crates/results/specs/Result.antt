@@ -2,12 +2,12 @@
 use Rattle.std.specs.Prelude.{ℕ, List, [], ◌++◌, map, length, slice_index_or, codes, Bool, true, false, if◌then◌else◌}
 use Rattle.std.specs.List.{list_all, range_with_len}
 use Rattle.std.specs.Fmt.{signed_decimal}
-use Rattle.types.specs.declared.offset_width.OffsetWidth.TheVariants.{Wide}
-use Rattle.types.specs.Kind as kind
-use Rattle.types.specs.Kind.{Kind}
-use Rattle.types.specs.Number.{is_of_type}
-use Rattle.types.specs.Shape as shape
-use Rattle.types.specs.Shape.{FieldShape, Shape, field}
+use Rattle.arrays.specs.OffsetWidths.{Wide}
+use Rattle.arrays.specs.Kind as kind
+use Rattle.arrays.specs.Kind.{Kind}
+use Rattle.arrays.specs.Number.{is_of_type}
+use Rattle.arrays.specs.Shape as shape
+use Rattle.arrays.specs.Shape.{FieldShape, Shape, field}
 use Rattle.arrays.specs.Batch.{Batch}
 use Rattle.arrays.specs.Item as item
 use Rattle.arrays.specs.Item.{Item}

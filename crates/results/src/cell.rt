@@ -1,20 +1,18 @@
 //! A cell of an answer.
 ghost use Rattle.std.specs.Prelude.{◌≡◌, ◌++◌, ◌∷◌, ◌<◌, [], OnOk, length, option_map};
 ghost use Rattle.std.specs.Option.{ForSome};
-ghost use Rattle.types.specs.Limits.{most_slots};
-ghost use Rattle.types.specs.Number.{IsOfType};
+ghost use Rattle.arrays.specs.Limits.{most_slots};
+ghost use Rattle.arrays.specs.Number.{IsOfType};
 ghost use Rattle.std.specs.Option.{option_copied};
 ghost use Rattle.arrays.specs.Slot.{item_of, item_of_bool, item_of_text};
 ghost use Rattle.answers.specs.Answers.{group_shape};
-ghost use Rattle.group.specs.Scalars.{item_of_scalar};
+ghost use Rattle.answers.specs.Scalars.{item_of_scalar};
 ghost use Rattle.results.specs.Cell.{only_of};
 ghost use Rattle.results.specs.Result.{is_of, item_at, decimal_text};
 
 use crate::result_type::ResultType;
-use answers::Group;
-use arrays::{IntType, TextBuilder};
-use colbits::NoMemory;
-use group::Scalar;
+use answers::{Group, Scalar};
+use arrays::{IntType, NoMemory, TextBuilder};
 use std::alloc::Global;
 
 /// The cell of a group at a place, from its key's items on; none is null.

@@ -1,9 +1,9 @@
 //! A column of an answer.
 ghost use Rattle.std.specs.Prelude.{◌≡◌, ◌≤◌, IfOk, length, map};
 ghost use Rattle.std.specs.List.{list_all};
-ghost use Rattle.types.specs.Kind as kind;
-ghost use Rattle.types.specs.Limits.{most_slots};
-ghost use Rattle.types.specs.declared.offset_width.OffsetWidth.TheVariants.{Wide};
+ghost use Rattle.arrays.specs.Kind as kind;
+ghost use Rattle.arrays.specs.Limits.{most_slots};
+ghost use Rattle.arrays.specs.OffsetWidths.{Wide};
 ghost use Rattle.arrays.specs.Shown.{shown};
 ghost use Rattle.answers.specs.Answers.{group_shape};
 ghost use Rattle.results.specs.Cell.{only_of};
@@ -12,8 +12,7 @@ ghost use Rattle.results.specs.Result.{is_of, item_at, result_column, decimal_te
 use crate::cell::{cell_at, is_of, number_of, push_spelled, truth_of};
 use crate::result_type::ResultType;
 use answers::Group;
-use arrays::{Array, BoolBuilder, IntBuilder, IntType, OffsetWidth, TextBuilder};
-use colbits::NoMemory;
+use arrays::{Array, BoolBuilder, IntBuilder, IntType, NoMemory, OffsetWidth, TextBuilder};
 use std::alloc::Global;
 
 /// The column of the cells at a place of groups, of the type where all are of it, else of texts.

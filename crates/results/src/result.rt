@@ -1,16 +1,15 @@
 //! The record batch of an answer.
 ghost use Rattle.std.specs.Prelude.{◌≡◌, ◌≤◌, IfOk, [], length, map, slice_index_or, string_bytes};
-ghost use Rattle.types.specs.Kind as kind;
-ghost use Rattle.types.specs.Limits.{most_slots};
-ghost use Rattle.types.specs.Shape.{fields_of, shape_of};
+ghost use Rattle.arrays.specs.Kind as kind;
+ghost use Rattle.arrays.specs.Limits.{most_slots};
+ghost use Rattle.arrays.specs.Shape.{fields_of, shape_of};
 ghost use Rattle.answers.specs.Answers as answers;
 ghost use Rattle.results.specs.Result.{result_batch, result_columns, result_fields, shape_of_kind};
 
 use crate::column::result_column;
 use crate::result_type::ResultType;
 use answers::{Answer, Group};
-use arrays::{Array, DataType, Field, MOST_SLOTS, RecordBatch, Schema};
-use colbits::NoMemory;
+use arrays::{Array, DataType, Field, MOST_SLOTS, NoMemory, RecordBatch, Schema};
 use std::alloc::Global;
 
 /// The batch of an answer: a row for each group, in their order; a column under each name, of the type where all its items are of it, and

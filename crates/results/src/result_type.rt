@@ -1,14 +1,12 @@
 //! Of which types the columns of an answer are.
 ghost use Rattle.std.specs.Prelude.{◌≡◌, ◌++◌, IfOk, map};
-ghost use Rattle.types.specs.Kind.{kind_of};
-ghost use Rattle.query.specs.QueryShape.{query_shape};
+ghost use Rattle.arrays.specs.Kind.{kind_of};
+ghost use Rattle.answers.specs.QueryShape.{query_shape};
 ghost use Rattle.results.specs.Types.{result_types, type_at, type_of_agg, type_of_kind};
 
-use arrays::{DataType, IntType, Schema};
-use colbits::NoMemory;
-use query::{Agg, Query};
+use answers::{Agg, Query};
+use arrays::{DataType, INT64, IntType, NoMemory, Schema};
 use std::alloc::Global;
-use types::INT64;
 
 /// The type of a column of an answer.
 #[derive(Clone, Copy, Debug, PartialEq, Eq)]

@@ -3,9 +3,9 @@ use Rattle.std.proofs.Common.{◌≡◌, ◌∙◌, ℕ, ◌+◌, ◌≤◌, Lis
 use Rattle.std.specs.Prelude.{slice_get}
 use Rattle.std.proofs.lemmas.List.{take-map}
 use Rattle.std.proofs.lemmas.List.Sums.{sum_by-take-le}
-use Rattle.types.specs.declared.offset_width.OffsetWidth.{OffsetWidth}
-use Rattle.types.specs.declared.offset_width.OffsetWidth.TheVariants.{Narrow, Wide}
-use Rattle.types.specs.OffsetWidth.{is_full}
+use Rattle.arrays.specs.OffsetWidth.{OffsetWidth}
+use Rattle.arrays.specs.OffsetWidths.{Narrow, Wide}
+use Rattle.arrays.specs.OffsetSize.{is_full}
 use Rattle.arrays.specs.Item.{Item}
 use Rattle.arrays.specs.Lengths as build
 use Rattle.arrays.specs.Lengths.{IsBuildFault, is_past, text_bytes, text_length}
@@ -15,7 +15,7 @@ use Rattle.select.specs.Fault.{IsFull, of_build}
 use Rattle.select.specs.Picked.{picked, picked_at}
 use Rattle.arrays.proofs.CutLemmas.{full-grows, past-more}
 use Rattle.select.proofs.PickLemmas.{picked-more}
-use Rattle.types.specs.Limits.{most_slots}
+use Rattle.arrays.specs.Limits.{most_slots}
 
 -- texts of the first rows are too many only where those of all are
 pub full-picked : (w : OffsetWidth) (items : List Item) (picks : List (Option ℕ)) (j : ℕ) (pick : Option ℕ) (old : List Item) (x : Item) → slice_get picks j ≡ Some pick

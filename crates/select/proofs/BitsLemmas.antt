@@ -5,10 +5,10 @@ use Rattle.std.specs.List.{range_with_len}
 use Rattle.std.proofs.lemmas.List.{get_or-drop}
 use Rattle.std.proofs.lemmas.List.FromFn.{get_or-map-range_with_len, length-map-range_with_len}
 use Rattle.std.proofs.lemmas.Option.{get_or_from_slice_get}
-use Rattle.colbits.specs.Bit.{bit, bit_in, bits}
-use Rattle.colbits.specs.Bitmap.{IsBitmap, IsBitmapOf}
-use Rattle.colbits.proofs.BitLemmas.{bits-filled, get_or-bits, past-filled}
-use Rattle.colbits.proofs.WordLemmas.{ArePlaces}
+use Rattle.arrays.specs.Bit.{bit, bit_in, bits}
+use Rattle.arrays.specs.Bitmap.{IsBitmap, IsBitmapOf}
+use Rattle.arrays.proofs.BitLemmas.{bits-filled, get_or-bits, past-filled}
+use Rattle.arrays.proofs.WordLemmas.{ArePlaces}
 use Rattle.arrays.specs.FromParts.{show_bits}
 use Rattle.arrays.specs.Item.{Item, boolean, null}
 use Rattle.arrays.specs.Kind as kind
@@ -18,7 +18,7 @@ use Rattle.arrays.specs.Shown.{kept, shown}
 use Rattle.arrays.specs.Values.{HasBits}
 use Rattle.arrays.proofs.FinishedLemmas.{slot, slots_shown}
 use Rattle.arrays.proofs.PartLemmas.{item_slot}
-use Rattle.layout.specs.Fault.{bytes_for, is_validity_short}
+use Rattle.arrays.specs.Fault.{bytes_for, is_validity_short}
 use Rattle.select.specs.Picked.{picked, picked_at, IsPick}
 use Rattle.select.specs.Stored.{is_stored}
 use Rattle.select.proofs.PickLemmas.{picked-by_place}

@@ -5,7 +5,7 @@ use Rattle.std.proofs.lemmas.List.{length-map}
 use Rattle.arrays.specs.Dictionary.{codes_of, dictionary_of, encoded, entries_shown, is_code, looked_up}
 use Rattle.arrays.specs.Item.{Item, null}
 use Rattle.arrays.specs.Kind as kind
-use Rattle.types.specs.declared.offset_width.OffsetWidth.{OffsetWidth}
+use Rattle.arrays.specs.OffsetWidth.{OffsetWidth}
 use Rattle.arrays.specs.Kind.{Kind, item_kind, same_kind, int32}
 use Rattle.arrays.specs.Seen.{Entries, Seen}
 use Rattle.arrays.specs.Shown.{shown, validity_of}

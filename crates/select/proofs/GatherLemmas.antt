@@ -2,7 +2,7 @@
 use Rattle.std.proofs.Common.{◌≡◌, ◌∙◌, ℕ, List, length, map, Option, ap, sym}
 use Rattle.std.specs.Prelude.{All}
 use Rattle.arrays.specs.Item.{Item}
-use Rattle.types.specs.declared.offset_width.OffsetWidth.{OffsetWidth}
+use Rattle.arrays.specs.OffsetWidth.{OffsetWidth}
 use Rattle.arrays.specs.Kind as kind
 use Rattle.arrays.specs.Lengths.{cut, inner_items, list_length, total}
 use Rattle.arrays.specs.Seen.{Seen}

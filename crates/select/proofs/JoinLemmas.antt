@@ -11,14 +11,14 @@ use Rattle.std.proofs.lemmas.Result.{IfErr-weaker}
 use Rattle.std.proofs.lemmas.Bool.{or_cases}
 use Rattle.arrays.specs.Item.{Item, null}
 use Rattle.arrays.specs.Kind as kind
-use Rattle.types.specs.declared.offset_width.OffsetWidth.{OffsetWidth}
-use Rattle.types.specs.OffsetWidth.{is_full}
+use Rattle.arrays.specs.OffsetWidth.{OffsetWidth}
+use Rattle.arrays.specs.OffsetSize.{is_full}
 use Rattle.arrays.specs.Kind.{Kind, item_kind, same_kind}
 use Rattle.select.proofs.ChosenLemmas.{item-is}
 use Rattle.arrays.specs.Lengths.{cut, inner_items, is_past, is_too_big, items_in, joined_items, list_length, text_bytes, text_length, total}
 use Rattle.arrays.specs.Seen.{Seen}
 use Rattle.arrays.specs.Shown.{shown}
-use Rattle.layout.proofs.ChildLemmas.{same_kinds}
+use Rattle.arrays.proofs.ChildLemmas.{same_kinds}
 use Rattle.select.specs.Children.{AreChildren, IsChild, IsInner, IsList}
 use Rattle.select.specs.Fault.{IsFull}
 use Rattle.select.specs.Joined.{concat_fault, is_content_too_big, joined, kind_of_first}

@@ -17,7 +17,7 @@ use Rattle.select.specs.Joined.{IsEncoded, joined, joined_codes, joined_entries,
 use Rattle.arrays.specs.Lengths.{joined_items}
 use Rattle.arrays.proofs.DictionaryLemmas.{code-below, below-code}
 use Rattle.select.proofs.ListLemmas.{get_or-map-any}
-use Rattle.types.specs.Limits.{most_slots}
+use Rattle.arrays.specs.Limits.{most_slots}
 
 pub encoded-is : (s : Seen) → s ≡ encoded (codes_of s) (dictionary_of s) → All (λ c. is_code (length s.entries.items) c ≡ true) s.codes → IsEncoded s
 encoded-is s is within = record { items = ap (λ (q : Seen). q.items) is; within = within }

@@ -11,8 +11,8 @@ use Rattle.std.proofs.lemmas.List.FromFn.{get_or-map-range_with_len, length-map-
 use Rattle.std.proofs.lemmas.List.Sums.{AllPass-from_list_all}
 use Rattle.std.proofs.lemmas.Nat.{row_fits}
 use Rattle.std.proofs.lemmas.Option.{get_or_from_slice_get}
-use Rattle.types.specs.declared.int_type.IntType.{IntType}
-use Rattle.types.proofs.EncodingLemmas.{number_at-append-front, number_at-append-past}
+use Rattle.arrays.specs.IntType.{IntType}
+use Rattle.arrays.proofs.EncodingLemmas.{number_at-append-front, number_at-append-past}
 use Rattle.arrays.specs.FromParts.{show_numbers}
 use Rattle.arrays.specs.Item as item
 use Rattle.arrays.specs.Item.{Item, null, int, is_null}
@@ -212,4 +212,4 @@ valid-place columns i k j s is at =
 pub all-joined_valid : (columns : List Seen) (n : ℕ) → n ≡ length (joined_items columns) → map (λ i. get_or (joined_valid columns) i false) (range_with_len 0 n) ≡ joined_valid columns
 all-joined_valid columns n size =
     ap (λ m. map (λ i. get_or (joined_valid columns) i false) (range_with_len 0 m)) (size ∙ sym (length-joined_valid columns))
-    ∙ Rattle.colbits.proofs.BitLemmas.listed (joined_valid columns)
+    ∙ Rattle.arrays.proofs.BitLemmas.listed (joined_valid columns)

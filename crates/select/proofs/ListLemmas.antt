@@ -10,7 +10,7 @@ use Rattle.std.proofs.lemmas.List.Sums.{sum_by-append, sum_by-take-le}
 use Rattle.std.proofs.lemmas.Grind.{flat_map-append}
 use Rattle.std.proofs.lemmas.Option.{get_or_from_slice_get}
 use Rattle.std.proofs.Math.Seq.{take-append_seam}
-use Rattle.colbits.specs.Slice.{slice}
+use Rattle.arrays.specs.Slice.{slice}
 use Rattle.arrays.specs.Item.{Item, Items, null, int, boolean, text, list, list_of, items_of}
 use Rattle.arrays.specs.Lengths.{cut, inner_items, is_past, items_in, list_length, total}
 use Rattle.arrays.specs.Offsets.{of_slot}

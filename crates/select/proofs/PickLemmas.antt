@@ -4,10 +4,10 @@ use Rattle.std.specs.Prelude.{slice_get, All}
 use Rattle.std.proofs.lemmas.List.{map-append, take_more, take_all}
 use Rattle.std.specs.List.{range_with_len}
 use Rattle.std.proofs.lemmas.Simd.{map-map}
-use Rattle.layout.proofs.ListLemmas.{map-range-below}
+use Rattle.arrays.proofs.RangeLists.{map-range-below}
 use Rattle.std.proofs.lemmas.List.FromFn.{fill_by_all}
 use Rattle.std.proofs.lemmas.Option.{slice_get_within, get_or_from_slice_get}
-use Rattle.types.specs.declared.int_type.IntType.{IntType}
+use Rattle.arrays.specs.IntType.{IntType}
 use Rattle.arrays.specs.Slot.{item_of}
 use Rattle.arrays.specs.Item.{Item, int}
 use Rattle.arrays.specs.Number.{number_at}

@@ -9,8 +9,8 @@ use Rattle.std.proofs.lemmas.List.Elements.{All-append, filter-append}
 use Rattle.std.proofs.lemmas.List.FromFn.{get_or-map-range_with_len, length-map-range_with_len}
 use Rattle.std.proofs.lemmas.List.Sums.{position_or_len_is}
 use Rattle.std.proofs.lemmas.Option.{slice_get_within, slice_get-get_or, get_or_from_slice_get}
-use Rattle.colbits.specs.Bitmap.{bit_of}
-use Rattle.types.specs.declared.int_type.IntType.{IntType}
+use Rattle.arrays.specs.Bitmap.{bit_of}
+use Rattle.arrays.specs.IntType.{IntType}
 use Rattle.arrays.specs.Kind as kind
 use Rattle.arrays.specs.Kind.{same_kind}
 use Rattle.arrays.specs.Item as item

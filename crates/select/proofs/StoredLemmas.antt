@@ -5,8 +5,8 @@ use Rattle.std.specs.List.{range_with_len}
 use borrow.Author.Count.{below_more}
 use Rattle.std.proofs.lemmas.List.FromFn.{get_or-map-range_with_len, length-map-range_with_len}
 use Rattle.std.proofs.lemmas.Nat.{row_fits}
-use Rattle.types.specs.declared.int_type.IntType.{IntType}
-use Rattle.types.proofs.EncodingLemmas.{length-bytes_of_number, number_at-append-front, number_at-append-end}
+use Rattle.arrays.specs.IntType.{IntType}
+use Rattle.arrays.proofs.EncodingLemmas.{length-bytes_of_number, number_at-append-front, number_at-append-end}
 use Rattle.arrays.specs.FromParts.{show_numbers}
 use Rattle.arrays.specs.Item.{Item, null, int}
 use Rattle.arrays.specs.Kind as kind

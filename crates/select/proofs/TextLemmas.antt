@@ -8,10 +8,10 @@ use Rattle.std.proofs.lemmas.List.Sums.{sum_by-cons, sum_by_push}
 use Rattle.std.proofs.lemmas.Option.{get_or_from_slice_get}
 use Rattle.std.proofs.lemmas.Simd.{map-map}
 use Rattle.std.proofs.Math.Seq.{take-append_seam}
-use Rattle.types.specs.declared.offset_width.OffsetWidth.{OffsetWidth}
-use Rattle.types.specs.declared.offset_width.OffsetWidth.TheVariants.{Narrow, Wide}
-use Rattle.types.specs.OffsetWidth.{is_full, most_of, offset_type}
-use Rattle.types.specs.Number.{bytes_of_number}
+use Rattle.arrays.specs.OffsetWidth.{OffsetWidth}
+use Rattle.arrays.specs.OffsetWidths.{Narrow, Wide}
+use Rattle.arrays.specs.OffsetSize.{is_full, most_of, offset_type}
+use Rattle.arrays.specs.Number.{bytes_of_number}
 use Rattle.arrays.specs.FromParts.{AreTexts, show_texts}
 use Rattle.arrays.specs.Growing.{AreLaid, AreTextsOf, IsText, cut_texts}
 use Rattle.arrays.specs.Item.{Item, null, int, boolean, text, list}
@@ -23,7 +23,7 @@ use Rattle.arrays.specs.Seen.{Seen, valid_in}
 use Rattle.arrays.specs.Shown.{kept, shown}
 use Rattle.arrays.specs.Slot.{item_of_text}
 use Rattle.arrays.specs.Values.{HasTexts}
-use Rattle.layout.specs.Fault.{is_validity_short}
+use Rattle.arrays.specs.Fault.{is_validity_short}
 use Rattle.arrays.proofs.LaidLemmas.{fresh-none, grown, laid, lengths-none, shown-texts, texts-laid, total-fresh}
 use Rattle.arrays.proofs.PartLemmas.{item_slot}
 use Rattle.select.specs.Picked.{picked, picked_at, IsPick}
@@ -32,7 +32,7 @@ use Rattle.select.specs.Texts.{AreOffsetsOf, all_bytes, bytes_in, is_valid, text
 use Rattle.select.proofs.BigLemmas.{full-picked}
 use Rattle.select.proofs.ListLemmas.{drop-front, get_or-map-any}
 use Rattle.select.proofs.PickLemmas.{by_place}
-use Rattle.types.specs.Limits.{most_slots}
+use Rattle.arrays.specs.Limits.{most_slots}
 
 -- ---- one text more
 

@@ -4,8 +4,8 @@ use mir.Val.{bits as width}
 use Rattle.std.specs.Int.{Width, from_bool}
 use Rattle.std.specs.Int.Bits.{or_zero_r}
 use Rattle.std.proofs.Math.Nat.{zero-mod, zero-mul}
-use Rattle.colbits.specs.Bit.{bit_in}
-use Rattle.colbits.proofs.BitLemmas.{bits-set, bits-left}
+use Rattle.arrays.specs.Bit.{bit_in}
+use Rattle.arrays.proofs.BitLemmas.{bits-set, bits-left}
 
 -- one more answer put into a word
 set_by : (w : Width) (f : ℕ → Bool) (word j : ℕ) (b : Bool) → j < width w → b ≡ f j → ((k : ℕ) → bit_in word k ≡ (nat_lt k j && f k))

@@ -1,7 +1,7 @@
 -- Columns one after the other.
 use Rattle.std.specs.Prelude.{◌≡◌, ℕ, ◌+◌, ◌*◌, ◌<◌, ◌+ℤ◌, pos, ◌||◌, List, [], ◌∷◌, ◌++◌, map, flat_map, length, take, slice_index_or, Bool, true, false, not, Option, Some, None, if◌then◌else◌}
 use Rattle.std.specs.List.{All, list_all, range_with_len}
-use Rattle.types.specs.declared.int_type.IntType.{IntType}
+use Rattle.arrays.specs.IntType.{IntType}
 use Rattle.arrays.specs.Dictionary.{entries_shown, is_code, looked_up}
 use Rattle.arrays.specs.Item.{Item, int, is_null, null}
 use Rattle.arrays.specs.Kind.{Kind, bytes_of, dict, same_kind, utf8}

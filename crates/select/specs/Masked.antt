@@ -1,6 +1,6 @@
 -- Bits of a mask.
 use Rattle.std.specs.Prelude.{◌≡◌, ℕ, List, Bool, length, slice_index_or}
-use Rattle.colbits.specs.Bitmap.{bit_of}
+use Rattle.arrays.specs.Bitmap.{bit_of}
 use Rattle.arrays.specs.Item.{Item, null}
 use Rattle.select.specs.Selection.{is_true}
 

@@ -1,7 +1,7 @@
 -- Rows that indices name.
 use Rattle.std.specs.Prelude.{◌≡◌, ℕ, ◌<◌, List, Bool, map, true, false, Option, option_map}
 use Rattle.std.specs.List.{range_with_len}
-use Rattle.types.specs.declared.int_type.IntType.{IntType}
+use Rattle.arrays.specs.IntType.{IntType}
 use Rattle.arrays.specs.Dictionary.{is_code}
 use Rattle.arrays.specs.Item.{Item}
 use Rattle.arrays.specs.Number.{natural}

@@ -1,8 +1,8 @@
 -- Rows that are picked, one for each slot of a result.
 use Rattle.std.specs.Prelude.{ℕ, ◌+◌, ◌-◌, ◌*◌, ◌<◌, ◌==◌, ◌++◌, List, map, filter, length, Bool, true, false, Option, Some, None, slice_index_or, if◌then◌else◌}
 use Rattle.std.specs.List.{range_with_len}
-use Rattle.colbits.specs.Bit.{bit_in}
-use Rattle.colbits.specs.Bitmap.{bit_of}
+use Rattle.arrays.specs.Bit.{bit_in}
+use Rattle.arrays.specs.Bitmap.{bit_of}
 use Rattle.arrays.specs.Item.{Item, null}
 
 -- The item of the row that is picked, null where none is.

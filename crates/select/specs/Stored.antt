@@ -1,6 +1,6 @@
 -- Numbers as they lie in a column.
 use Rattle.std.specs.Prelude.{◌≡◌, ℕ, ◌*◌, ◌<◌, List, Bool, false, length, Option, Some, None, IfSome, slice_index_or}
-use Rattle.types.specs.declared.int_type.IntType.{IntType}
+use Rattle.arrays.specs.IntType.{IntType}
 use Rattle.arrays.specs.Kind.{bytes_of}
 use Rattle.arrays.specs.Number.{number_at}
 use Rattle.arrays.specs.Seen.{valid_in}

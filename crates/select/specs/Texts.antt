@@ -1,6 +1,6 @@
 -- Texts one after the other.
 use Rattle.std.specs.Prelude.{◌≡◌, ℕ, List, [], Bool, length, map, flat_map, not, Option, Some, None}
-use Rattle.types.specs.declared.offset_width.OffsetWidth.{OffsetWidth}
+use Rattle.arrays.specs.OffsetWidth.{OffsetWidth}
 use Rattle.arrays.specs.Growing.{AreFresh, lengths_where}
 use Rattle.arrays.specs.Item.{Item, is_null, text}
 

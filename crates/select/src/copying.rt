@@ -6,8 +6,7 @@ ghost use Rattle.select.specs.Chosen.{chosen};
 use crate::fault::SelectFault;
 use crate::gather::gather;
 use crate::rows::FirstRows;
-use arrays::{Array, View};
-use colbits::NoMemory;
+use arrays::{Array, NoMemory, View};
 use std::alloc::Global;
 
 /// The items of a view as an array in memory of its own, save that a dictionary-encoded view shares its dictionary.

@@ -1,5 +1,4 @@
-use arrays::BuildFault;
-use colbits::NoMemory;
+use arrays::{BuildFault, NoMemory};
 use std::alloc::{AllocError, AllocFailed};
 use thiserror::Error;
 

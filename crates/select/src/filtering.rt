@@ -1,7 +1,7 @@
 //! The rows of a view where a mask is true.
 
 ghost use Rattle.std.specs.Prelude.{◌≡◌, ◌<◌, ◌&&◌, None, length, IfErr, IfOk};
-ghost use Rattle.colbits.specs.Bitmap.{bit_of};
+ghost use Rattle.arrays.specs.Bitmap.{bit_of};
 ghost use Rattle.arrays.specs.Kind as kind;
 ghost use Rattle.arrays.specs.Lengths.{is_too_big};
 ghost use Rattle.select.specs.Chosen.{chosen};
@@ -12,8 +12,7 @@ ghost use Rattle.select.specs.Selection.{filter_fault, kept};
 use crate::fault::SelectFault;
 use crate::gather::gather;
 use crate::trues::Trues;
-use arrays::{Array, Bools, View, ViewType};
-use colbits::{BitmapBuf, Bits, Places};
+use arrays::{Array, BitmapBuf, Bits, Bools, Places, View, ViewType};
 use std::alloc::Global;
 
 /// The items where the mask is true; where it is false or null they are dropped. A dictionary-encoded view keeps

@@ -9,7 +9,7 @@ ghost use Rattle.arrays.specs.Slot.{item_of};
 ghost use Rattle.select.specs.Named.{IsLeastOutside, NameRows, rows_named};
 ghost use Rattle.select.specs.Picked.{IsPick, picked};
 ghost use Rattle.select.specs.Selection.{outside, taken};
-ghost use Rattle.types.specs.Limits.{most_slots};
+ghost use Rattle.arrays.specs.Limits.{most_slots};
 
 use crate::fault::SelectFault;
 use crate::rows::{Place, Rows};
@@ -23,7 +23,7 @@ pub(crate) struct Indices<'a, T: Integer> {
 }
 
 impl<'a, T: Integer> Model for Indices<'a, T> {
-    ghost use Rattle.types.specs.Limits.{most_slots};
+    ghost use Rattle.arrays.specs.Limits.{most_slots};
     ghost use Rattle.std.specs.Prelude.{ℕ, List, Option};
     ghost use Rattle.select.specs.Named.{NameRows, rows_named};
 

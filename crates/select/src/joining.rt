@@ -8,7 +8,7 @@ ghost use Rattle.arrays.specs.Seen.{Seen};
 ghost use Rattle.arrays.specs.ViewType.{view_kind};
 ghost use Rattle.select.specs.Fault.{IsFull, IsSelectFault};
 ghost use Rattle.select.specs.Joined.{concat_fault, is_content_too_big, is_joined_too_big, joined, kind_of_first};
-ghost use Rattle.types.specs.Limits.{most_slots};
+ghost use Rattle.arrays.specs.Limits.{most_slots};
 
 mod bools;
 mod dicts;
@@ -18,9 +18,8 @@ mod texts;
 mod valid;
 
 use crate::fault::SelectFault;
-use arrays::{Array, View, ViewType};
+use arrays::{Array, MOST_SLOTS, View, ViewType};
 use std::alloc::Global;
-use types::MOST_SLOTS;
 
 /// The items of all views, one view after the other. Dictionaries come one after the other too, and codes name their
 /// entries there, so that doubles may stand among them. `TypesDiffer` unless all views are of one type. `OffsetsFull`

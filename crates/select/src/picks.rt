@@ -4,14 +4,13 @@ ghost use Rattle.std.specs.Prelude.{◌≡◌, ℕ, ◌+◌, ◌<◌, ◌≤◌,
 ghost use Rattle.std.specs.List.{range_with_len};
 ghost use Rattle.arrays.specs.Lengths.{is_past};
 ghost use Rattle.select.specs.Fault.{IsFull};
-ghost use Rattle.types.specs.Limits.{most_slots};
+ghost use Rattle.arrays.specs.Limits.{most_slots};
 
 use crate::fault::SelectFault;
 use crate::rows::{Place, Rows};
-use colbits::NoMemory;
+use arrays::{MOST_SLOTS, NoMemory};
 use std::alloc::Global;
 use std::marker::Model;
-use types::MOST_SLOTS;
 
 /// What is kept for no row.
 const NONE: u32 = u32::MAX;
@@ -23,7 +22,7 @@ pub(crate) struct Picks {
 }
 
 impl Model for Picks {
-    ghost use Rattle.types.specs.Limits.{most_slots};
+    ghost use Rattle.arrays.specs.Limits.{most_slots};
     ghost use Rattle.std.specs.Prelude.{ℕ, ◌≤◌, List, Option, map, length};
     ghost use Rattle.select.specs.Picked.{pick_of};
 

@@ -10,9 +10,8 @@ ghost use Rattle.select.specs.Selection.{indices_fault, take_fault, taken};
 use crate::fault::SelectFault;
 use crate::gather::gather;
 use crate::indices::Indices;
-use arrays::{Array, Integer, View, ViewType};
+use arrays::{Array, Integer, View, ViewType, with_integer};
 use std::alloc::Global;
-use types::with_integer;
 
 /// The items at the indices, in their order and as often as they come: null where the index is null. A
 /// dictionary-encoded view keeps its kind and shares its dictionary. `WrongKind` unless the indices are integers;

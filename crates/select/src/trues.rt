@@ -2,10 +2,10 @@
 
 ghost use Rattle.std.specs.Prelude.{◌≡◌, ◌<◌, ◌≤◌, true, count_by, length};
 ghost use Rattle.select.specs.Picked.{ones_left, rows_of_ones};
-ghost use Rattle.types.specs.Limits.{most_slots};
+ghost use Rattle.arrays.specs.Limits.{most_slots};
 
 use crate::rows::{Place, Rows};
-use colbits::Bits;
+use arrays::Bits;
 
 /// The rows whose bit is 1, in their order.
 #[derive(Drop)]

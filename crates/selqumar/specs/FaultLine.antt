@@ -1,11 +1,11 @@
 -- What a call leaves in the caller's buffer that fills a table or changes it.
 use Rattle.std.specs.Prelude.{◌≡◌, ℕ, List, Bool, true, false}
-use Rattle.ends.specs.Line.{message}
-use Rattle.flat.specs.declared.fault.FlatFault.TheVariants as flat
+use Rattle.embed.specs.Line.{message}
+use Rattle.intake.specs.FlatFaults as flat
 use Rattle.intake.specs.declared.fault.IntakeFault.{IntakeFault}
 use Rattle.intake.specs.declared.fault.IntakeFault.TheVariants.{Column, Flat, Refused}
-use Rattle.table.specs.declared.add_fault.AddFault.TheVariants as column
-use Rattle.table.specs.declared.refusal.Refusal.TheVariants as refusal
+use Rattle.embed.specs.AddFaults as column
+use Rattle.embed.specs.Refusals as refusal
 use Rattle.selqumar.specs.Status.{IsTooShort, IsWritten}
 
 -- The fault is want of memory.

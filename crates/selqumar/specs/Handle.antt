@@ -1,9 +1,9 @@
 -- The table that is open in a handle.
 use Rattle.std.specs.Prelude.{◌≡◌, ℕ, List, Option, None, Some}
-use Rattle.table.specs.Contents.{Contents}
-use Rattle.reports.specs.Exported.{exported}
-use Rattle.reports.specs.Shown.{stats_text}
-use Rattle.reports.specs.declared.run_fault.RunFault.{RunFault}
+use Rattle.embed.specs.Contents.{Contents}
+use Rattle.embed.specs.Exported.{exported}
+use Rattle.embed.specs.Shown.{stats_text}
+use Rattle.embed.specs.RunFault.{RunFault}
 use Rattle.embed.specs.Answer.{PrintsAnswer, StopsAnswer}
 use Rattle.embed.specs.Loaded.{HoldsFiles}
 use Rattle.embed.specs.declared.loaded.Loaded.{Loaded}

@@ -1,10 +1,10 @@
 -- The snapshot that is open in a handle.
 use Rattle.std.specs.Prelude.{◌≡◌, ℕ, List, Option, None, Some, Result, IfOk, IsOk}
-use Rattle.colbits.specs.declared.memory.NoMemory.{NoMemory}
-use Rattle.table.specs.Contents.{Contents}
-use Rattle.reports.specs.Exported.{exported}
-use Rattle.reports.specs.Shown.{stats_text}
-use Rattle.reports.specs.declared.run_fault.RunFault.{RunFault}
+use Rattle.arrays.specs.NoMemory.{NoMemory}
+use Rattle.embed.specs.Contents.{Contents}
+use Rattle.embed.specs.Exported.{exported}
+use Rattle.embed.specs.Shown.{stats_text}
+use Rattle.embed.specs.RunFault.{RunFault}
 use Rattle.embed.specs.Answer.{IsAnswerTable, PrintsAnswer, StopsAnswer}
 use Rattle.embed.specs.declared.loaded.Loaded.{Loaded}
 use Rattle.embed.specs.declared.snapshot.Snapshot.{Snapshot}

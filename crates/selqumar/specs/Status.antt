@@ -2,8 +2,8 @@
 use Rattle.std.specs.Prelude.{◌≡◌, ◌≢◌, ◌⊎◌, ◌<◌, ◌≤◌, ◌++◌, ℕ, List, [], Result, Ok, Err, drop, length, string_bytes}
 use Rattle.std.specs.declared.alloc.Global.{Global}
 use Rattle.std.specs.declared.string.String.{String}
-use Rattle.reports.specs.declared.run_fault.RunFault.{RunFault}
-use Rattle.reports.specs.declared.run_fault.RunFault.TheVariants.{NoMemory}
+use Rattle.embed.specs.RunFault.{RunFault}
+use Rattle.embed.specs.RunFaults.{NoMemory}
 use Rattle.embed.specs.Output.{AreLoadable, line_of_fault}
 
 -- The items are at the front of the buffer, whose rest stayed as it was.

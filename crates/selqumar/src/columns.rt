@@ -1,15 +1,15 @@
 //! The columns of a snapshot, lent.
 ghost use Rattle.std.specs.Prelude.{◌≡◌, ◌≢◌, ◌≤◌, None, [], length};
-ghost use Rattle.flat.specs.Schema.{Names};
+ghost use Rattle.intake.specs.Schema.{Names};
 ghost use Rattle.selqumar.specs.Lent.{IsLent, IsLentOf};
 ghost use Rattle.selqumar.specs.Snapshot.{OfSnapshot};
 ghost use Rattle.selqumar.specs.Status.{HasNoRoom, IsGiven, IsKept};
 
 use crate::snapshot_handle::SnapshotHandle;
 use crate::status::{GIVEN, NO_BATCH, NO_MEMORY, NOT_OPEN, put_items};
-use colbits::NoMemory;
+use arrays::NoMemory;
 use embed::Snapshot;
-use flat::{Node, fields_of, nodes_of};
+use intake::{Node, fields_of, nodes_of};
 use std::alloc::Global;
 
 /// Lends the columns of a batch as nodes over the very bytes of the table: they stand as long as the snapshot is left alone. `rows` is how

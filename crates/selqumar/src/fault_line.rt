@@ -1,15 +1,14 @@
 //! Faults of tables that are filled, as lines in the caller's buffer.
 ghost use Rattle.std.specs.Prelude.{◌≡◌, ◌≢◌, ◌≤◌, Err, IfOk, IsErr, IsOk, List, OnOk, [], false, string_bytes, ℕ};
-ghost use Rattle.ends.specs.Line.{message};
+ghost use Rattle.embed.specs.Line.{message};
 ghost use Rattle.selqumar.specs.Status.{IsKept, IsWritten};
 ghost use Rattle.selqumar.specs.FaultLine.{IsTold, IsUntold, wants_memory};
 
 use crate::status::{FAULT, NO_MEMORY, done, put_items};
-use colbits::NoMemory;
-use flat::FlatFault;
-use intake::IntakeFault;
+use arrays::NoMemory;
+use embed::{AddFault, Refusal};
+use intake::{FlatFault, IntakeFault};
 use std::alloc::Global;
-use table::{AddFault, Refusal};
 
 /// Puts nothing into a buffer, or the line of a fault, and answers the status.
 pub(crate) fn put_outcome<T: Drop>(

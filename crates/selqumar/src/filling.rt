@@ -4,15 +4,14 @@ ghost use Rattle.intake.specs.Filling.{IsAppended, IsEmptyOf, IsWidened, StopsAp
 ghost use Rattle.selqumar.specs.Handle.{Became, OfOpen};
 ghost use Rattle.selqumar.specs.Status.{IsKept, IsWritten};
 ghost use Rattle.selqumar.specs.FaultLine.{IsTold, IsUntold};
-ghost use Rattle.table.specs.Compacted.{IsCompacted};
+ghost use Rattle.embed.specs.Compacted.{IsCompacted};
 
 use crate::fault_line::{put_fault, put_outcome};
 use crate::handle::Handle;
 use crate::status::{NO_MEMORY, NOT_OPEN, done};
-use colbits::NoMemory;
+use arrays::NoMemory;
 use embed::Loaded;
-use flat::Node;
-use intake::{IntakeFault, add_column, append, table_of};
+use intake::{IntakeFault, Node, add_column, append, table_of};
 use std::alloc::Global;
 
 /// Opens an empty table of the fields that nodes name, in place of the one that is open. Lengths, null counts and buffers aren't

@@ -6,7 +6,7 @@ ghost use Rattle.selqumar.specs.Status.{IsGiven, IsKept, IsReported, IsShort, Is
 use crate::handle::Handle;
 use crate::snapshot_handle::SnapshotHandle;
 use crate::status::{GIVEN, NO_MEMORY, NOT_OPEN, done, put};
-use colbits::NoMemory;
+use arrays::NoMemory;
 use embed::Snapshot;
 use std::alloc::Global;
 

@@ -1,16 +1,16 @@
 -- What a query's text asks of rows, and why it has no answer.
 use Rattle.std.specs.Prelude.{◌≡◌, ℕ, List, Ok, Err, ⊤}
-use Rattle.answers.specs.Answers.{IsAnswer}
-use Rattle.answers.specs.Groups.{groups}
-use Rattle.answers.specs.declared.groups.Answer.{Answer}
+use Rattle.shared.specs.Answers.{IsAnswer}
+use Rattle.shared.specs.Groups.{groups}
+use Rattle.shared.specs.Answer.{Answer}
 use Rattle.arrays.specs.Batch.{Table}
 use Rattle.arrays.specs.Shape.{FieldShape}
-use Rattle.json_query.specs.QueryDocument.{ReadsQueryText}
-use Rattle.json_query.specs.QueryDocumentFault.{QueryBytesFault}
-use Rattle.query.specs.QueryShape.{QueryShape}
-use Rattle.query.specs.Resolved.{resolved}
-use Rattle.query.specs.declared.fault.QueryFault.{QueryFault}
-use Rattle.query.specs.declared.fault.QueryFault.TheVariants.{Overflow}
+use Rattle.arrow_json.specs.QueryDocument.{ReadsQueryText}
+use Rattle.arrow_json.specs.QueryDocumentFault.{QueryBytesFault}
+use Rattle.shared.specs.QueryShape.{QueryShape}
+use Rattle.shared.specs.Resolved.{resolved}
+use Rattle.shared.specs.QueryFault.{QueryFault}
+use Rattle.shared.specs.QueryFaults.{Overflow}
 use Rattle.selqumar_core.specs.declared.fault.Fault.{Fault}
 use Rattle.selqumar_core.specs.declared.fault.Fault.TheVariants as fault
 

@@ -1,18 +1,16 @@
 //! Queries as texts, over what a table holds.
 
 ghost use Rattle.std.specs.Prelude.{◌≡◌, IfErr, IfOk, true};
-ghost use Rattle.query.specs.Fault.{fits};
-ghost use Rattle.query.specs.QueryShape.{query_shape};
+ghost use Rattle.shared.specs.FirstFault.{fits};
+ghost use Rattle.shared.specs.QueryShape.{query_shape};
 ghost use Rattle.selqumar_core.specs.Asked.{IsAsked, ReadsPlaced, IsUnasked};
-ghost use Rattle.table.specs.History.{rows};
+ghost use Rattle.shared.specs.History.{rows};
 
 use crate::fault::Fault;
-use answers::{Answer, OpenGate};
 use arrow_json::{JsonFaultKind, read_query};
-use query::{Query, QueryFault, resolve};
+use shared::{Answer, OpenGate, Query, QueryFault, Version, resolve};
 use std::alloc::Global;
 use std::thread::Threads;
-use table::Version;
 
 /// On how many threads the rows are looked at, at most.
 const PIECES: u32 = 4;

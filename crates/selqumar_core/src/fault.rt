@@ -1,14 +1,11 @@
 //! One fault for all that a program does with the library.
 
-use arrays::{BatchFault, BuildFault, SchemaFault};
+use arrays::{BatchFault, BuildFault, NoMemory, SchemaFault};
 use arrow_json::JsonFault;
-use colbits::NoMemory;
 use loads::LoadFault;
-use query::QueryFault;
-use shared::{GatherCause, OpenFault};
+use shared::{AddFault, GatherCause, OpenFault, QueryFault, Refusal};
 use std::alloc::{AllocError, AllocFailed};
 use std::io;
-use table::{AddFault, Refusal};
 use thiserror::Error;
 
 /// What went wrong. Each fault of the library becomes one of these by `?`, and prints as it does by itself.

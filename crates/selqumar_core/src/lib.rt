@@ -7,10 +7,10 @@
 pub mod asking;
 pub mod fault;
 
-pub use answers::{Answer, Group};
 pub use arrays::{
-    Array, BatchFault, BoolBuilder, BuildFault, DataType, Field, File, INT32, IntBuilder, IntType,
-    ListBuilder, OffsetWidth, RecordBatch, Schema, SchemaFault, TextBuilder, View, ViewType, Width,
+    Array, BatchFault, BoolBuilder, BuildFault, DataType, Field, File, INT32, INT64, IntBuilder,
+    IntType, ListBuilder, OffsetWidth, RecordBatch, Schema, SchemaFault, TextBuilder, View,
+    ViewType, Width,
 };
 pub use arrow_json::{
     JsonFault, JsonFaultKind, fault_text, print_file, read_field, read_file, read_file_from_vec,
@@ -19,10 +19,9 @@ pub use arrow_json::{
 pub use asking::ask;
 pub use fault::Fault;
 pub use loads::{Gate, LoadFault, OpenGate, load_all};
-pub use query::{Query, QueryFault, QueryText, resolve};
 pub use shared::{
-    GatherCause, GatherFault, Gathered, Naming, OpenFault, Opening, Publish, Reader, Receipt,
-    Session, SharedTable, Shown, Worker, open, with_table,
+    AddFault, Answer, ColumnStats, Entry, GatherCause, GatherFault, Gathered, Group, Naming,
+    OpenFault, OpenGate, Opening, Publish, Query, QueryFault, QueryText, Reader, Ready, Receipt,
+    Refusal, Session, SharedTable, Shown, TableState, Version, Worker, joined, open, resolve,
+    stats_of, with_table,
 };
-pub use table::{AddFault, Entry, Ready, Refusal, TableState, Version};
-pub use types::INT64;

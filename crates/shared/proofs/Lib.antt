@@ -1,4 +1,6 @@
 -- What the proofs of this crate share.
+pub use Rattle.table.proofs.WidenedLemmas
+pub use Rattle.histories.proofs.PrefixLemmas
 pub mod HandLemmas
 pub mod BalanceLemmas
 pub mod KnownLemmas

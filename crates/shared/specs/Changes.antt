@@ -9,7 +9,7 @@ use Rattle.shared.specs.Known.{Known}
 use Rattle.table.specs.Contents.{table_code}
 use Rattle.table.specs.History.{History}
 use Rattle.table.specs.Widened.{widened}
-use Rattle.types.specs.Code.{field_code}
+use Rattle.arrays.specs.FieldCode.{field_code}
 
 -- A worker's rows come behind all others, or a field behind the others.
 pub data Change : Type 0 where

@@ -8,7 +8,7 @@ use Rattle.table.specs.Cause.{IsLegal}
 use Rattle.table.specs.Contents.{Contents}
 use Rattle.table.specs.History.{History}
 use Rattle.table.specs.Widened.{widened}
-use Rattle.types.specs.Code.{field_code}
+use Rattle.arrays.specs.FieldCode.{field_code}
 
 -- The fields of the table as they are stored, and its history under them.
 pub record Known : Type 0 where

@@ -3,7 +3,7 @@ use Rattle.std.specs.Prelude.{◌≡◌, ℕ, List, refl}
 use Rattle.std.specs.Coded.{Coded, code_by, coded_ℕ, coded_list, coded×}
 use Rattle.arrays.specs.Shape.{FieldShape}
 use Rattle.logbook.specs.Pages.{Book, book_coded}
-use Rattle.types.specs.Code.{field_code}
+use Rattle.arrays.specs.FieldCode.{field_code}
 
 -- The book of its log, its stored fields, its ledgers of calls, of rows and of columns, and how many workers it has.
 pub record NamedTable : Type 0 where

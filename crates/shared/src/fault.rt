@@ -4,7 +4,7 @@ use crate::naming::Naming;
 use crate::shared_table::SharedTable;
 use crate::shown::{Publish, Shown};
 use crate::worker::Worker;
-use colbits::NoMemory;
+use arrays::NoMemory;
 use std::alloc::{AllocError, AllocFailed};
 use thiserror::Error;
 

@@ -36,5 +36,8 @@ pub use reader::Reader;
 pub use session::{Session, with_table};
 pub use shared_table::{Gathered, SharedTable};
 pub use shown::{Publish, Publisher, Shown};
-pub use table::{AddFault, Entry, Refusal, TableState, Version};
+pub use table::{
+    AddFault, Answer, ColumnStats, Entry, Group, OpenGate, Query, QueryFault, QueryText, Ready,
+    Refusal, TableState, Version, joined, resolve, stats_of,
+};
 pub use worker::Worker;

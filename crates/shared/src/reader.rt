@@ -9,7 +9,7 @@ ghost use Rattle.shared.specs.Known.{IsBeginning, IsLegalKnown, known_of};
 use crate::naming::{Event, Naming};
 use crate::outcome::Receipt;
 use crate::shown::Shown;
-use colbits::NoMemory;
+use arrays::NoMemory;
 use histories::Front;
 use left_right::ReadHandle;
 use std::alloc::Global;

@@ -4,7 +4,7 @@ ghost use Rattle.std.specs.Prelude.{◌≡◌, ◌⊎◌, ◌+◌, ◌≤◌, []
 ghost use Rattle.std.specs.Arc.{arc_value};
 ghost use mathlib.Core.List.{IsPrefix};
 ghost use Rattle.arrays.specs.Shape.{field_of};
-ghost use Rattle.compaction.specs.Groups.{AreApart};
+ghost use Rattle.table.specs.Neighbours.{AreApart};
 ghost use Rattle.shared.specs.Balance.{IsOfWorkers};
 ghost use Rattle.shared.specs.Gathered.{Stands};
 ghost use Rattle.shared.specs.Hand.{HasAdded, HasSeen, HasWidened, HasAddedNothing, IsRaised, HasAllItsPairs, calls_of_hand, columns_of_hand, rows_of_hand};
@@ -24,8 +24,7 @@ use crate::naming::{Event, Naming};
 use crate::outcome::Receipt;
 use crate::shown::{Publish, Shown};
 use crate::worker::Worker;
-use arrays::{Field, RecordBatch};
-use colbits::NoMemory;
+use arrays::{Field, NoMemory, RecordBatch};
 use histories::{Front, Head};
 use std::alloc::Global;
 use std::marker::Model;

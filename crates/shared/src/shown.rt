@@ -9,7 +9,7 @@ ghost use Rattle.shared.specs.Showing.{Showing};
 
 use crate::naming::{Event, Naming};
 use crate::seal::Seal;
-use colbits::NoMemory;
+use arrays::NoMemory;
 use histories::Front;
 use left_right::{Absorb, WriteHandle};
 use std::alloc::{AllocError, Global};

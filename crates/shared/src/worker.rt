@@ -11,7 +11,7 @@ ghost use Rattle.table.specs.Widened.{widened};
 use crate::ledgers::{Books, Columns, Shares};
 use crate::naming::{Accepted, Event, Naming};
 use crate::outcome::Outcome;
-use colbits::NoMemory;
+use arrays::NoMemory;
 use histories::{Front, Own};
 use std::alloc::Global;
 use std::marker::Model;

@@ -10,11 +10,11 @@ use Rattle.arrays.specs.First.{first}
 use Rattle.arrays.specs.Kind.{depth, has_dict_in_list, kind_of}
 use Rattle.arrays.specs.Schema.{holds_dict, is_deep, schema_fault}
 use Rattle.arrays.specs.Shape.{FieldShape, Shape, field, field_of, field_step, is_nullable, kind_of_field, shape_step}
-use Rattle.types.specs.declared.data_type.Field.{Field, fold_out-Field, out-Field}
-use Rattle.types.specs.declared.schema.SchemaFault.{SchemaFault}
-use Rattle.types.specs.declared.schema.SchemaFault.TheVariants.{TooDeep as SchemaDeep, DictInList as SchemaDict}
-use Rattle.types.proofs.FirstLemmas.{first-none, then_some-none}
-use Rattle.types.proofs.ShapeLemmas.{kind_of_field-field_of}
+use Rattle.arrays.specs.Field.{Field, fold_out-Field, out-Field}
+use Rattle.arrays.specs.SchemaFault.{SchemaFault}
+use Rattle.arrays.specs.SchemaFaults.{TooDeep as SchemaDeep, DictInList as SchemaDict}
+use Rattle.arrays.proofs.FirstLemmas.{first-none, then_some-none}
+use Rattle.arrays.proofs.ShapeLemmas.{kind_of_field-field_of}
 use Rattle.table.specs.Stored.{stored_field}
 use Rattle.table.specs.Widened.{add_fault}
 use Rattle.table.specs.declared.add_fault.AddFault.{AddFault}

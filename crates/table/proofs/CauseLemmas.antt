@@ -8,9 +8,9 @@ use Rattle.arrays.specs.Batch.{Batch, batch_fault, rows_of, Table}
 use Rattle.arrays.specs.Kind.{kind_of, same_kind}
 use Rattle.arrays.specs.Seen.{Seen}
 use Rattle.arrays.specs.Shape.{FieldShape, Shape, field_of, field_step, fields_of, kind_of_field, name_of, shape_step}
-use Rattle.types.specs.declared.data_type.Field.{Field, fold_out-Field, out-Field}
-use Rattle.types.proofs.SchemaLemmas.{position-map}
-use Rattle.types.proofs.ShapeLemmas.{kind_of_field-field_of}
+use Rattle.arrays.specs.Field.{Field, fold_out-Field, out-Field}
+use Rattle.arrays.proofs.SchemaLemmas.{position-map}
+use Rattle.arrays.proofs.ShapeLemmas.{kind_of_field-field_of}
 use Rattle.std.specs.Bool.{then_some}
 use Rattle.arrays.specs.First.{first}
 use Rattle.table.specs.Cause.{difference, differs, early_cause, is_book_full, is_table_full, null_cause}

@@ -12,9 +12,9 @@ use Rattle.arrays.specs.Kind as kind
 use Rattle.arrays.specs.Seen.{Seen}
 use Rattle.arrays.specs.Shape.{FieldShape, field_of, fields_of, kind_of_field}
 use Rattle.arrays.specs.Shown.{shown}
-use Rattle.types.specs.declared.data_type.Field.{Field}
-use Rattle.group.specs.Summary.{AreStats}
-use Rattle.group.specs.declared.stats.ColumnStats.{ColumnStats}
+use Rattle.arrays.specs.Field.{Field}
+use Rattle.answers.specs.Summary.{AreStats}
+use Rattle.answers.specs.ColumnStats.{ColumnStats}
 use Rattle.table.specs.Cause.{IsLegal}
 use Rattle.table.specs.Contents.{Contents}
 use Rattle.table.specs.Storage.{IsConsistent, batches_of, book_of, dictionaries_in, pieces_in, show}
@@ -24,7 +24,7 @@ use Rattle.compaction.specs.Statistics.{AreStatsOf}
 use Rattle.table.specs.Ready.{ArePools}
 use Rattle.table.specs.Stored.{is_text_field, stored_field, stored_fields}
 use Rattle.table.specs.declared.storage.Storage.{Storage}
-use Rattle.group.proofs.ColumnsLemmas.{all_zip-push}
+use Rattle.answers.proofs.ColumnsLemmas.{all_zip-push}
 
 -- ---- no texts
 

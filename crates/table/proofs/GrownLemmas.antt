@@ -7,7 +7,7 @@ use Rattle.arrays.specs.Kind.{Kind, same_kind}
 use Rattle.arrays.specs.Seen.{Seen}
 use Rattle.arrays.specs.Shape.{FieldShape}
 use Rattle.arrays.specs.Shown.{shown}
-use Rattle.types.specs.declared.offset_width.OffsetWidth.TheVariants.{Narrow, Wide}
+use Rattle.arrays.specs.OffsetWidths.{Narrow, Wide}
 use Rattle.arrays.specs.Slot.{is_recodable}
 use Rattle.pool.specs.Texts.{firsts, is_too_full, texts_of}
 use Rattle.std.specs.Bool.{then_some}

@@ -11,7 +11,7 @@ use Rattle.std.proofs.lemmas.List.Concat.{flat_map-cons}
 use Rattle.std.proofs.lemmas.List.Elements.{All-cons, All-drop, All-map, All-take}
 use Rattle.std.proofs.lemmas.List.Folds.{flat_map-map, list_any-append}
 use mathlib.Core.List.{IsPrefix}
-use Rattle.colbits.specs.declared.memory.NoMemory.{NoMemory}
+use Rattle.arrays.specs.NoMemory.{NoMemory}
 use Rattle.arrays.specs.Batch.{Batch, batch_fault, rows_of, Table, column}
 use Rattle.arrays.specs.First.{first}
 use Rattle.arrays.specs.Item.{Item, is_null, text}
@@ -20,12 +20,12 @@ use Rattle.arrays.specs.Kind.{same_kind}
 use Rattle.arrays.specs.Seen.{Seen}
 use Rattle.arrays.specs.Shape.{FieldShape, is_nullable, kind_of_field}
 use Rattle.arrays.specs.Shown.{shown}
-use Rattle.types.proofs.FirstLemmas.{first-none}
-use Rattle.layout.proofs.ChildLemmas.{same_kinds}
-use Rattle.group.specs.Columns.{AreTheirs}
-use Rattle.group.specs.Summary.{AreStats}
-use Rattle.group.specs.declared.stats.ColumnStats.{ColumnStats}
-use Rattle.compaction.specs.Groups.{AreGroups, together}
+use Rattle.arrays.proofs.FirstLemmas.{first-none}
+use Rattle.arrays.proofs.ChildLemmas.{same_kinds}
+use Rattle.answers.specs.StatsOfColumns.{AreTheirs}
+use Rattle.answers.specs.Summary.{AreStats}
+use Rattle.answers.specs.ColumnStats.{ColumnStats}
+use Rattle.compaction.specs.Neighbours.{AreGroups, together}
 use Rattle.compaction.specs.Under.{HaveStats, IsDictionary, IsUnder, pieces_of}
 use Rattle.compaction.proofs.GroupLemmas.{groups-few, groups-some, groups-together}
 use Rattle.table.specs.Cause.{IsLegal, null_cause, null_in, null_row}

@@ -11,13 +11,13 @@ use Rattle.arrays.specs.Kind.{Kind, same_kind}
 use Rattle.arrays.specs.Seen.{Seen}
 use Rattle.arrays.specs.Shape.{FieldShape, kind_of_field}
 use Rattle.arrays.specs.Shown.{shown}
-use Rattle.types.specs.declared.offset_width.OffsetWidth.TheVariants.{Narrow, Wide}
+use Rattle.arrays.specs.OffsetWidths.{Narrow, Wide}
 use Rattle.arrays.proofs.ListArrays.{same_kind-refl}
 use Rattle.arrays.specs.Slot.{is_recodable}
-use Rattle.group.specs.Summary.{AreStats}
-use Rattle.group.specs.declared.stats.ColumnStats.{ColumnStats}
+use Rattle.answers.specs.Summary.{AreStats}
+use Rattle.answers.specs.ColumnStats.{ColumnStats}
 use Rattle.pool.specs.Texts.{firsts, texts_of}
-use Rattle.group.specs.Columns.{AreJoined, AreTheirs}
+use Rattle.answers.specs.StatsOfColumns.{AreJoined, AreTheirs}
 use Rattle.compaction.specs.Under.{NamesFront}
 use Rattle.table.specs.Lawful.{texts_in}
 use Rattle.table.specs.Recoded.{coded, dictionary_for, grown, stored_seen}

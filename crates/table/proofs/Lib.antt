@@ -1,4 +1,7 @@
 -- What the proofs of this crate share.
+pub use Rattle.answers.proofs.JoinedStats
+pub use Rattle.answers.proofs.TallyLemmas
+pub use Rattle.compaction.proofs.GroupLemmas
 pub mod HistoryLemmas
 pub mod FrontLemmas
 pub mod TableLemmas

@@ -8,12 +8,12 @@ use Rattle.std.specs.declared.vec.Vec.{Vec}
 use Rattle.std.specs.List.{AllZip, enumerate_from}
 use Rattle.std.proofs.lemmas.Bool.{ltb-false}
 use Rattle.std.proofs.lemmas.List.{length-map, map-append}
-use Rattle.colbits.specs.declared.memory.NoMemory.{NoMemory}
+use Rattle.arrays.specs.NoMemory.{NoMemory}
 use Rattle.arrays.specs.Batch.{Batch, rows_of, Table}
 use Rattle.arrays.specs.Seen.{Seen}
 use Rattle.arrays.specs.Shape.{FieldShape}
-use Rattle.group.proofs.ColumnsLemmas.{all_zip-push}
-use Rattle.group.specs.declared.stats.ColumnStats.{ColumnStats}
+use Rattle.answers.proofs.ColumnsLemmas.{all_zip-push}
+use Rattle.answers.specs.ColumnStats.{ColumnStats}
 use Rattle.std.specs.Bool.{then_some}
 use Rattle.compaction.specs.Under.{pieces_of}
 use Rattle.table.specs.Cause.{IsLegal, batch_cause, cause, difference, is_book_full, is_table_full, null_cause, texts_cause}
@@ -31,7 +31,7 @@ use Rattle.table.proofs.StorageLemmas.{rows-shown}
 use Rattle.table.proofs.HistoryLemmas.{IsLegal-push, cut-push, length-cut}
 use Rattle.table.proofs.MovedLemmas.{Lawful-moved, moved-self, table-moved, tables-moved}
 use Rattle.table.proofs.TableLemmas.{Lawful-push, table_of-push}
-use Rattle.types.proofs.FirstLemmas.{first-none, then_some-none}
+use Rattle.arrays.proofs.FirstLemmas.{first-none, then_some-none}
 
 -- ---- no refusal
 

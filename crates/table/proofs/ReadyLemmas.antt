@@ -6,9 +6,9 @@ use Rattle.std.specs.List.{AllZip, enumerate_from, zip}
 use Rattle.arrays.specs.Batch.{Batch, batch_fault, rows_of, Table}
 use Rattle.arrays.specs.Seen.{Seen}
 use Rattle.arrays.specs.Shape.{FieldShape}
-use Rattle.group.specs.declared.stats.ColumnStats.{ColumnStats}
+use Rattle.answers.specs.ColumnStats.{ColumnStats}
 use Rattle.table.specs.Cause.{batch_cause, difference, early_cause, null_cause}
-use Rattle.group.specs.Columns.{AreJoined, AreTheirs}
+use Rattle.answers.specs.StatsOfColumns.{AreJoined, AreTheirs}
 use Rattle.table.specs.Storage.{IsConsistent, batches_of, book_of, dictionaries_in, pieces_in, show}
 use Rattle.compaction.specs.Under.{IsDictionary, IsUnder, NamesFront, pieces_of}
 use Rattle.table.specs.Lawful.{dictionaries_of, rows_of_batches, texts_in}

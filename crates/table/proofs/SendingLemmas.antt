@@ -1,9 +1,8 @@
 -- What may go to other threads, and be seen by several: lowest first, since the search doesn't find it of the whole.
 use denote.Param.Send.{IsSend, IsSync, sendable}
 use Rattle.std.proofs.Crossing.{crosses}
-use Rattle.types.proofs.SendingLemmas.{schema-send, schema-sync}
-use Rattle.arrays.proofs.SendingLemmas.{batch-send, batch-sync, words-send, words-sync}
-use Rattle.group.proofs.SendingLemmas.{stats-send, stats-sync}
+use Rattle.arrays.proofs.SendingLemmas.{schema-send, schema-sync, batch-send, batch-sync, words-send, words-sync}
+use Rattle.answers.proofs.StatsSending.{stats-send, stats-sync}
 use Rattle.pool.proofs.SendingLemmas.{pool-send}
 use Rattle.table.specs.contracts.book.Book as book
 use Rattle.table.specs.contracts.storage.Storage as storage

@@ -10,8 +10,8 @@ use Rattle.std.proofs.lemmas.Option.{same_Some, slice_get-map}
 use Rattle.arrays.specs.Batch.{Batch, rows_of, Table, column}
 use Rattle.arrays.specs.Seen.{Seen}
 use Rattle.arrays.specs.Shape.{FieldShape, kind_of_field}
-use Rattle.group.specs.Summary.{AreStats}
-use Rattle.group.specs.declared.stats.ColumnStats.{ColumnStats}
+use Rattle.answers.specs.Summary.{AreStats}
+use Rattle.answers.specs.ColumnStats.{ColumnStats}
 use Rattle.std.proofs.lemmas.List.{get_or-map, length-map}
 use Rattle.table.specs.Storage.{IsConsistent, batches_of, book_of, pieces_in, show}
 use Rattle.table.specs.History.{book, rows}

@@ -1,12 +1,12 @@
 -- A schema as a table stores it.
 use Rattle.std.proofs.Common.{◌≡◌, ◌∙◌, List, Option, None, Some, option_map, position, ap, refl}
 use Rattle.std.specs.Option.{option_or}
-use Rattle.types.specs.declared.offset_width.OffsetWidth.TheVariants.{Narrow, Wide}
+use Rattle.arrays.specs.OffsetWidths.{Narrow, Wide}
 use Rattle.arrays.specs.Schema.{holds_dict, is_deep, schema_fault}
 use Rattle.arrays.specs.Shape.{FieldShape, boolean, dict, field, int, lists, texts}
-use Rattle.types.specs.declared.schema.SchemaFault.{SchemaFault}
-use Rattle.types.specs.declared.schema.SchemaFault.TheVariants.{DictInList, TooDeep}
-use Rattle.types.proofs.SchemaLemmas.{position-map}
+use Rattle.arrays.specs.SchemaFault.{SchemaFault}
+use Rattle.arrays.specs.SchemaFaults.{DictInList, TooDeep}
+use Rattle.arrays.proofs.SchemaLemmas.{position-map}
 use Rattle.table.specs.Stored.{stored_field, stored_fields}
 
 pub same_deep : (f : FieldShape) → is_deep (stored_field f) ≡ is_deep f

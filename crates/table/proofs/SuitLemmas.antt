@@ -6,13 +6,13 @@ use Rattle.std.proofs.lemmas.Bool.{eqb-true, not-false, or_parts}
 use Rattle.std.proofs.lemmas.List.Elements.{All-map}
 use Rattle.arrays.specs.Batch.{Batch, batch_fault, row_of, rows_of, Table, column}
 use Rattle.arrays.specs.Item.{Item, boolean, int, list, null, text}
-use Rattle.types.specs.declared.offset_width.OffsetWidth.TheVariants.{Narrow, Wide}
+use Rattle.arrays.specs.OffsetWidths.{Narrow, Wide}
 use Rattle.arrays.specs.Kind as kind
 use Rattle.arrays.specs.Kind.{Kind, same_kind}
 use Rattle.arrays.specs.Seen.{Seen}
 use Rattle.arrays.specs.Shape.{FieldShape, kind_of_field, name_of}
 use Rattle.arrays.specs.Typed.{IsItemOf}
-use Rattle.layout.proofs.ChildLemmas.{same_kinds}
+use Rattle.arrays.proofs.ChildLemmas.{same_kinds}
 use Rattle.pool.proofs.PlaceLemmas.{among_missing}
 use Rattle.arrays.specs.First.{first}
 use Rattle.table.specs.Cause.{IsRowOf, IsTableOf, difference, differs}

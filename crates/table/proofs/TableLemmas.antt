@@ -14,8 +14,8 @@ use Rattle.arrays.specs.Kind as kind
 use Rattle.arrays.specs.Seen.{Seen}
 use Rattle.arrays.specs.Shape.{FieldShape}
 use Rattle.arrays.specs.Shown.{shown}
-use Rattle.group.proofs.ColumnsLemmas.{all_zip-push}
-use Rattle.group.specs.declared.stats.ColumnStats.{ColumnStats}
+use Rattle.answers.proofs.ColumnsLemmas.{all_zip-push}
+use Rattle.answers.specs.ColumnStats.{ColumnStats}
 use Rattle.pool.specs.Texts.{firsts, texts_of}
 use Rattle.pool.proofs.TextLemmas.{beyond, firsts-append}
 use Rattle.compaction.specs.Under.{NamesFront}

@@ -12,7 +12,7 @@ use Rattle.arrays.specs.Item.{Item, is_null, null}
 use Rattle.arrays.specs.Kind.{Kind}
 use Rattle.arrays.specs.Shape.{FieldShape, is_nullable, kind_of_field}
 use Rattle.arrays.specs.Typed.{IsItemOf}
-use Rattle.group.proofs.ColumnsLemmas.{all_zip-push}
+use Rattle.answers.proofs.ColumnsLemmas.{all_zip-push}
 use Rattle.pool.specs.Texts.{firsts, is_too_full, texts_of}
 use Rattle.table.specs.Cause.{IsLegal, IsRowOf, IsTableOf, cause, full_in, is_book_full, is_table_full, null_cause, null_in, null_row, texts_cause}
 use Rattle.table.specs.History.{History, book, history_from, of, rows}

@@ -7,7 +7,7 @@ use Rattle.std.proofs.lemmas.List.{get_or-map, length-map, map-append, take-map,
 use Rattle.std.proofs.lemmas.List.Elements.{All-append, All-map}
 use Rattle.std.proofs.lemmas.Simd.{map-map}
 use Rattle.std.proofs.lemmas.Slice.Zip.{get_or-zip, length-zip}
-use Rattle.types.specs.Limits.{most_slots}
+use Rattle.arrays.specs.Limits.{most_slots}
 use Rattle.arrays.specs.Batch.{Batch, Row, batch_fault, row_of, rows_of, Table, column}
 use Rattle.arrays.specs.Dictionary.{looked_up}
 use Rattle.arrays.specs.Item.{Item, null, text}
@@ -19,9 +19,9 @@ use Rattle.arrays.specs.Shape.{FieldShape, is_nullable, kind_of_field}
 use Rattle.arrays.specs.Shown.{shown}
 use Rattle.compaction.specs.Statistics.{AreStatsOf}
 use Rattle.compaction.specs.Under.{NamesFront}
-use Rattle.group.proofs.ColumnsLemmas.{all_zip-more, all_zip-push}
-use Rattle.group.specs.Summary.{AreSame, AreStats}
-use Rattle.group.specs.declared.stats.ColumnStats.{ColumnStats}
+use Rattle.answers.proofs.ColumnsLemmas.{all_zip-more, all_zip-push}
+use Rattle.answers.specs.Summary.{AreSame, AreStats}
+use Rattle.answers.specs.ColumnStats.{ColumnStats}
 use Rattle.pool.specs.Texts.{firsts, texts_of}
 use Rattle.table.specs.Cause.{IsLegal, null_cause}
 use Rattle.table.specs.Contents.{Contents}

@@ -1,6 +1,6 @@
 -- A table whose neighbouring batches are joined.
 use Rattle.std.specs.Prelude.{◌≡◌, ℕ}
-use Rattle.compaction.specs.Groups.{AreGroups}
+use Rattle.compaction.specs.Neighbours.{AreGroups}
 use Rattle.table.specs.Contents.{Contents}
 
 -- The batches of the second are the groups of the first's: of so many rows at most. All else is the same.

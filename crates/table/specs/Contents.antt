@@ -2,8 +2,8 @@
 use Rattle.std.specs.Prelude.{ℕ, List, refl, [], ◌∷◌, ◌++◌}
 use Rattle.std.specs.Coded.{Coded, code_by, coded_ℕ, coded_list, coded×}
 use Rattle.arrays.specs.Batch.{Batch, rows_of, Table}
-use Rattle.types.specs.Code.{field_code}
-use Rattle.layout.specs.Code.{item_code}
+use Rattle.arrays.specs.FieldCode.{field_code}
+use Rattle.arrays.specs.SeenCode.{item_code}
 use Rattle.arrays.specs.Shape.{FieldShape}
 use Rattle.table.specs.History.{History}
 

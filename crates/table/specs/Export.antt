@@ -3,7 +3,7 @@ use Rattle.std.specs.Prelude.{◌≡◌, ℕ, ◌+◌, ◌<◌, ◌≤◌, List,
 use Rattle.arrays.specs.Batch.{Batch, batch_fault}
 use Rattle.arrays.specs.Seen.{Seen, part}
 use Rattle.arrays.specs.Shape.{FieldShape}
-use Rattle.select.specs.Chosen.{chosen}
+use Rattle.compaction.specs.Chosen.{chosen}
 use Rattle.table.specs.Lawful.{rows_of_batches}
 use Rattle.table.specs.declared.export.Place.{Place}
 

@@ -9,7 +9,7 @@ use Rattle.arrays.specs.Shape.{FieldShape}
 use Rattle.arrays.specs.Shown.{shown}
 use Rattle.compaction.specs.Under.{NamesFront}
 use Rattle.compaction.specs.Statistics.{AreStatsOf}
-use Rattle.group.specs.declared.stats.ColumnStats.{ColumnStats}
+use Rattle.answers.specs.ColumnStats.{ColumnStats}
 use Rattle.pool.specs.Texts.{firsts, texts_of}
 use Rattle.table.specs.Cause.{null_cause}
 use Rattle.table.specs.Stored.{is_text_field}

@@ -1,9 +1,9 @@
 -- How a table keeps its columns: a top-level column of texts with offsets of 32 bits gets a dictionary.
 use Rattle.std.specs.Prelude.{List, map, Bool}
-use Rattle.types.specs.declared.offset_width.OffsetWidth.TheVariants.{Narrow, Wide}
+use Rattle.arrays.specs.OffsetWidths.{Narrow, Wide}
 use Rattle.arrays.specs.Kind as kind
 use Rattle.arrays.specs.Kind.{Kind, kind_of, same_kind}
-use Rattle.types.specs.declared.data_type.DataType.{DataType}
+use Rattle.arrays.specs.DataType.{DataType}
 use Rattle.arrays.specs.Shape.{FieldShape, Shape, boolean, dict, field, int, kind_of_field, lists, texts}
 
 abbrev pub stored_shape : Shape → Shape

@@ -10,8 +10,8 @@ use Rattle.arrays.specs.Nulls.{nulls}
 use Rattle.arrays.specs.Seen.{Seen}
 use Rattle.arrays.specs.Shape.{FieldShape, kind_of_field}
 use Rattle.arrays.specs.Shown.{shown}
-use Rattle.group.specs.Summary.{AreSame, AreStats}
-use Rattle.group.specs.declared.stats.ColumnStats.{ColumnStats}
+use Rattle.answers.specs.Summary.{AreSame, AreStats}
+use Rattle.answers.specs.ColumnStats.{ColumnStats}
 use Rattle.table.specs.Storage.{batches_of, book_of, dictionaries_in, pieces_in}
 use Rattle.table.specs.declared.storage.Storage.{Storage}
 

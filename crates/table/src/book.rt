@@ -5,7 +5,7 @@ ghost use Rattle.table.specs.Book.{pair_of};
 
 use crate::chunks::Chunks;
 use crate::entry::Entry;
-use colbits::NoMemory;
+use arrays::NoMemory;
 use std::alloc::Global;
 use std::marker::Model;
 

@@ -5,7 +5,7 @@ ghost use Rattle.std.specs.List.{AllZip};
 ghost use Rattle.table.specs.Chunks.{AreCopies};
 
 use crate::storage::all_shared;
-use colbits::NoMemory;
+use arrays::NoMemory;
 use std::alloc::Global;
 use std::marker::Model;
 use std::sync::Arc;

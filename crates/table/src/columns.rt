@@ -12,8 +12,7 @@ ghost use Rattle.pool.specs.Front.{IsFront};
 ghost use Rattle.table.specs.Recoded.{coded, dictionary_for, entry_count, full_cause, grown, is_past_dictionary, shortened, stored_seen};
 
 use crate::refusal::Refusal;
-use arrays::{Array, Words};
-use colbits::NoMemory;
+use arrays::{Array, NoMemory, Words};
 use pool::{PoolFault, TextPool, recode};
 use std::alloc::Global;
 use std::sync::Arc;

@@ -3,16 +3,15 @@
 ghost use Rattle.std.specs.Prelude.{◌≡◌, ◌+◌, ◌<◌, ◌≤◌, All, IfOk, length, map};
 ghost use Rattle.std.specs.Arc.{arc_value};
 ghost use Rattle.std.specs.List.{AllByRecursion};
-ghost use Rattle.colbits.specs.Slice.{slice};
+ghost use Rattle.arrays.specs.Slice.{slice};
 ghost use Rattle.arrays.specs.Batch.{rows_of};
 ghost use Rattle.table.specs.Export.{HasMore, IsLawful, IsExportPlace, IsUnder, copied, passed};
 ghost use Rattle.table.specs.Storage.{IsConsistent, show};
 ghost use Rattle.table.specs.Lawful.{rows_of_batches};
 
 use crate::storage::Storage;
-use arrays::{Array, File, RecordBatch, Schema};
-use colbits::NoMemory;
-use select::copy;
+use arrays::{Array, File, NoMemory, RecordBatch, Schema};
+use compaction::copy;
 use std::alloc::Global;
 use std::sync::Arc;
 

@@ -6,7 +6,7 @@ ghost use Rattle.table.specs.Storage.{IsConsistent, show};
 
 use crate::chunks::Chunks;
 use crate::storage::Storage;
-use colbits::NoMemory;
+use arrays::NoMemory;
 use compaction::compact;
 use std::alloc::Global;
 

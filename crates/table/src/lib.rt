@@ -33,6 +33,10 @@ pub mod version;
 mod widening;
 
 pub use add_fault::AddFault;
+pub use answers::{
+    Agg, Answer, ColumnStats, Gate, Group, OpenGate, Query, QueryFault, QueryText, Scalar, joined,
+    query_fault_text, resolve, stats_of,
+};
 pub use entry::Entry;
 pub use ready::Ready;
 pub use refusal::Refusal;

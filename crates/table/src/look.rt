@@ -10,7 +10,7 @@ ghost use Rattle.table.specs.declared.storage.Storage.{Storage};
 use crate::change::Change;
 use crate::storage::Storage;
 use crate::version::Version;
-use colbits::NoMemory;
+use arrays::NoMemory;
 use std::alloc::Global;
 use std::sync::Arc;
 

@@ -8,8 +8,7 @@ ghost use Rattle.table.specs.Moved.{AreMoved, IsMoved};
 ghost use Rattle.table.specs.Storage.{batches_of};
 
 use crate::storage::Storage;
-use arrays::{RecordBatch, Schema, Words};
-use colbits::NoMemory;
+use arrays::{NoMemory, RecordBatch, Schema, Words};
 use compaction::{names_whole, with_dictionaries};
 use std::alloc::Global;
 use std::sync::Arc;

@@ -2,11 +2,10 @@
 
 ghost use Rattle.std.specs.Prelude.{◌≡◌, IfOk};
 ghost use Rattle.std.specs.Arc.{arc_value};
-ghost use Rattle.group.specs.Columns.{AreTheirs};
+ghost use Rattle.answers.specs.StatsOfColumns.{AreTheirs};
 
-use arrays::RecordBatch;
-use colbits::NoMemory;
-use group::{ColumnStats, stats_of_all};
+use answers::{ColumnStats, stats_of_all};
+use arrays::{NoMemory, RecordBatch};
 use std::alloc::Global;
 use std::marker::Model;
 use std::sync::Arc;
@@ -30,7 +29,7 @@ impl Model for Ready {
     ghost coded = { batch_code };
 
     ghost use Rattle.std.specs.Arc.{arc_value};
-    ghost use Rattle.group.specs.Columns.{AreTheirs};
+    ghost use Rattle.answers.specs.StatsOfColumns.{AreTheirs};
 
     ghost view = { λ r. r.batch };
 

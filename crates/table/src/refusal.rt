@@ -1,4 +1,4 @@
-use colbits::NoMemory;
+use arrays::NoMemory;
 use std::alloc::{AllocError, AllocFailed};
 use thiserror::Error;
 

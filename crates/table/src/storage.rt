@@ -10,9 +10,8 @@ pub(crate) mod empty;
 use crate::book::Book;
 use crate::change::Addition;
 use crate::chunks::Chunks;
-use arrays::{RecordBatch, Schema, Words};
-use colbits::NoMemory;
-use group::ColumnStats;
+use answers::ColumnStats;
+use arrays::{NoMemory, RecordBatch, Schema, Words};
 use std::alloc::Global;
 use std::sync::Arc;
 

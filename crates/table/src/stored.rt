@@ -4,8 +4,7 @@ ghost use Rattle.std.specs.Prelude.{◌≡◌, IfOk};
 ghost use Rattle.arrays.specs.Shape.{field_of, fields_of, shape_of};
 ghost use Rattle.table.specs.Stored.{stored_field, stored_fields, stored_shape};
 
-use arrays::{DataType, Field, Schema};
-use colbits::NoMemory;
+use arrays::{DataType, Field, NoMemory, Schema};
 use std::alloc::Global;
 
 /// The schema of a table's columns as they are stored: each top-level text gets a dictionary.

@@ -7,7 +7,7 @@ ghost use Rattle.arrays.specs.Batch.{Batch};
 ghost use Rattle.arrays.specs.Kind.{depth, has_dict_in_list, kind_of};
 ghost use Rattle.arrays.specs.Shape.{field_of, fields_of};
 ghost use Rattle.compaction.specs.Under.{pieces_of};
-ghost use Rattle.group.specs.Summary.{AreSame};
+ghost use Rattle.answers.specs.Summary.{AreSame};
 ghost use Rattle.table.specs.Storage.{IsConsistent, show};
 ghost use Rattle.table.specs.Stored.{stored_field};
 ghost use Rattle.table.specs.Widened.{add_fault, with_last_field};
@@ -18,12 +18,12 @@ use crate::chunks::Chunks;
 use crate::storage::Storage;
 use crate::storage::empty::no_entry;
 use crate::stored::stored_one;
-use arrays::{Array, DataType, Field, RecordBatch, Schema, ViewType};
-use colbits::NoMemory;
-use group::ColumnStats;
+use answers::ColumnStats;
+use arrays::{
+    Array, DataType, Field, NoMemory, RecordBatch, Schema, ViewType, has_dict_in_list, is_too_deep,
+};
 use std::alloc::Global;
 use std::sync::Arc;
-use types::{has_dict_in_list, is_too_deep};
 
 /// Why no column of the field is added. It doesn't look into a field that is too deep.
 pub(crate) fn fault_of(field: &Field) -> Option<AddFault>

@@ -6,18 +6,18 @@ use Rattle.arrays.specs.Item.{null, int, Item}
 use Rattle.arrays.specs.Seen.{Seen, valid_in}
 use Rattle.evaluate.specs.Rows.{HasColumn}
 use Rattle.std.proofs.lemmas.List.FromFn.{length-map-range_with_len}
-use Rattle.types.specs.declared.int_type.IntType.{IntType}
+use Rattle.arrays.specs.IntType.{IntType}
 use Rattle.arrays.specs.Number.{number_at}
 use Rattle.arrays.specs.Values.{number_items}
 use Rattle.std.proofs.lemmas.Grind.{common_steps}
 use Rattle.std.proofs.lemmas.List.{map-append, length-map, take_all}
 use Rattle.std.proofs.lemmas.List.Elements.{All-nil, All-cons, All-head, All-tail, All-append, All-replicate}
-use Rattle.query.specs.declared.expr.Agg.{Agg}
+use Rattle.evaluate.specs.Agg.{Agg}
 use Rattle.tallies.specs.Columns.{ColumnShape, column_of, show_item}
 use Rattle.tallies.specs.Spread.{padded, spread}
 use Rattle.tallies.specs.Tallies.{items_for, tally_of, AreTallies, HasRoomFor, TallyShape, bettered, item_for}
 use Rattle.group.specs.declared.stats.Scalar.{Scalar}
-use Rattle.query.specs.declared.expr.Agg.TheVariants as agg
+use Rattle.evaluate.specs.Aggs as agg
 use Rattle.tallies.specs.Ends.{agg_at}
 use Rattle.tallies.specs.Picked.{items_at}
 use Rattle.tallies.specs.declared.end.End.{End}

@@ -10,8 +10,8 @@ use Rattle.group.specs.Joined.{better}
 use Rattle.group.specs.Summary.{scalar_item}
 use Rattle.group.specs.declared.stats.Scalar.{Scalar}
 use Rattle.group.specs.declared.stats.Scalar.TheVariants as scalar
-use Rattle.query.specs.declared.expr.Agg.{Agg}
-use Rattle.query.specs.declared.expr.Agg.TheVariants as agg
+use Rattle.evaluate.specs.Agg.{Agg}
+use Rattle.evaluate.specs.Aggs as agg
 use Rattle.group.specs.Scalars.{item_of_scalar}
 use Rattle.tallies.specs.Columns.{ColumnShape, column_of, show_item}
 use Rattle.tallies.specs.Ends.{agg_at, further, is_further, with_item}

@@ -8,8 +8,8 @@ use Rattle.std.proofs.lemmas.List.{append-nil}
 use Rattle.std.proofs.lemmas.List.Sums.{fold_push, length-filter, count_by-le-length, fold-append}
 use Rattle.std.proofs.lemmas.List.Elements.{filter-append, filter_map-append, All-head, All-tail}
 use Rattle.arrays.specs.Item.{Item, null, int, boolean, text, list, is_null}
-use Rattle.query.specs.declared.expr.Agg.{Agg}
-use Rattle.query.specs.declared.expr.Agg.TheVariants as agg
+use Rattle.evaluate.specs.Agg.{Agg}
+use Rattle.evaluate.specs.Aggs as agg
 use Rattle.group.specs.Stats.{number_of, numbers_of, lesser, greater, greatest_of, is_ordered, least_of, ordered}
 use Rattle.tallies.specs.declared.end.End.{End}
 use Rattle.tallies.specs.declared.end.End.TheVariants.{Least, Greatest}
@@ -22,7 +22,7 @@ use Rattle.arrays.specs.Kind.{Kind}
 use Rattle.arrays.specs.Slot.{is_list}
 use Rattle.arrays.specs.Typed.{IsItemOf}
 use Rattle.group.specs.Joined.{better}
-use Rattle.group.proofs.JoinLemmas.{greatest-append, least-append}
+use Rattle.group.proofs.JoinedStats.{greatest-append, least-append}
 use Rattle.tallies.specs.Kinds.{IsComparable}
 use Rattle.tallies.specs.Merging.{merged}
 

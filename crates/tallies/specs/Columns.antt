@@ -4,8 +4,8 @@ use Rattle.arrays.specs.Batch.{Table}
 use Rattle.arrays.specs.Item.{Item}
 use Rattle.group.specs.Summary.{scalar_item}
 use Rattle.group.specs.declared.stats.Scalar.{Scalar}
-use Rattle.query.specs.declared.expr.Agg.{Agg}
-use Rattle.query.specs.declared.expr.Agg.TheVariants as agg
+use Rattle.evaluate.specs.Agg.{Agg}
+use Rattle.evaluate.specs.Aggs as agg
 use Rattle.tallies.specs.Ends.{agg_at, number_if_any}
 use Rattle.tallies.specs.Tallies.{TallyShape, bettered, counted, items_for, tally_of, cell_of}
 use Rattle.tallies.specs.Totals.{sum_if_any}

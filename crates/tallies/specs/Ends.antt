@@ -3,8 +3,8 @@ use Rattle.std.specs.Prelude.{ℕ, ◌^◌, ℤ, pos, Bool, not, Option, Some, N
 use Rattle.std.specs.Ordering.{int_eq, is_gt}
 use Rattle.arrays.specs.Item.{Item, int, is_null}
 use Rattle.arrays.specs.Order.{order}
-use Rattle.query.specs.declared.expr.Agg.{Agg}
-use Rattle.query.specs.declared.expr.Agg.TheVariants as agg
+use Rattle.evaluate.specs.Agg.{Agg}
+use Rattle.evaluate.specs.Aggs as agg
 use Rattle.tallies.specs.declared.end.End.{End}
 use Rattle.tallies.specs.declared.end.End.TheVariants.{Least, Greatest}
 

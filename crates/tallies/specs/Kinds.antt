@@ -5,8 +5,8 @@ use Rattle.arrays.specs.Item.{Item}
 use Rattle.arrays.specs.Kind.{Kind}
 use Rattle.arrays.specs.Slot.{is_list}
 use Rattle.arrays.specs.Typed.{IsItemOf}
-use Rattle.query.specs.declared.expr.Agg.{Agg}
-use Rattle.query.specs.declared.expr.Agg.TheVariants.{Rows, Count, Sum, Least, Greatest}
+use Rattle.evaluate.specs.Agg.{Agg}
+use Rattle.evaluate.specs.Aggs.{Rows, Count, Sum, Least, Greatest}
 use Rattle.tallies.specs.Tallies.{item_for}
 
 -- An item of which the least or the greatest is sought is null or of its column's kind, which isn't one of lists.

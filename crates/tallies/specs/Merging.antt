@@ -2,8 +2,8 @@
 use Rattle.std.specs.Prelude.{◌≤◌, ◌^◌, ℕ, ◌+◌, ◌+ℤ◌, List, [], ◌∷◌, ◌++◌, None, All, ⊤, slice_set, slice_index_or}
 use Rattle.arrays.specs.Batch.{Table}
 use Rattle.arrays.specs.Kind.{Kind}
-use Rattle.query.specs.declared.expr.Agg.{Agg}
-use Rattle.query.specs.declared.expr.Agg.TheVariants.{Rows, Count, Sum, Least, Greatest}
+use Rattle.evaluate.specs.Agg.{Agg}
+use Rattle.evaluate.specs.Aggs.{Rows, Count, Sum, Least, Greatest}
 use Rattle.group.specs.Joined.{better}
 use Rattle.group.specs.Stats.{greater, lesser}
 use Rattle.tallies.specs.Columns.{ColumnShape}

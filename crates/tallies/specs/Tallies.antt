@@ -4,8 +4,8 @@ use Rattle.std.specs.List.{All, reduce}
 use Rattle.arrays.specs.Batch.{Row, Table}
 use Rattle.arrays.specs.Item.{Item, null, int, is_null}
 use Rattle.arrays.specs.Slot.{item_of}
-use Rattle.query.specs.declared.expr.Agg.{Agg}
-use Rattle.query.specs.declared.expr.Agg.TheVariants.{Rows, Count, Sum, Least, Greatest}
+use Rattle.evaluate.specs.Agg.{Agg}
+use Rattle.evaluate.specs.Aggs.{Rows, Count, Sum, Least, Greatest}
 use Rattle.group.specs.Stats.{numbers_of, lesser, greater}
 use Rattle.group.specs.Scalars.{item_or_null}
 

@@ -9,7 +9,7 @@ ghost use Rattle.tallies.specs.Ends.{is_better, is_further, with_item};
 ghost use Rattle.group.specs.Scalars.{item_of_ref};
 
 use crate::end::End;
-use colbits::NoMemory;
+use arrays::NoMemory;
 use group::{Scalar, ScalarRef};
 use std::alloc::Global;
 

@@ -2,8 +2,8 @@
 
 ghost use Rattle.std.specs.Prelude.{ℕ, ◌≡◌, ◌+◌, ◌≤◌, ◌<◌, ◌^◌, [], All, IfOk, List, None, OnOk, length, map};
 ghost use Rattle.arrays.specs.Batch.{Table, row_of};
-ghost use Rattle.query.specs.Columns.{sort_at};
-ghost use Rattle.query.specs.Fault.{agg_fault};
+ghost use Rattle.evaluate.specs.CalledColumns.{sort_at};
+ghost use Rattle.evaluate.specs.FirstFault.{agg_fault};
 ghost use Rattle.group.specs.Scalars.{item_of_scalar};
 ghost use Rattle.tallies.specs.Columns.{column_of, rows_column, show_column, cell_of_group};
 ghost use Rattle.tallies.specs.Spread.{padded, spread};
@@ -17,11 +17,10 @@ use crate::items::{add_items, push_empty, scalars_of};
 use crate::numbers::{add_best, add_sums};
 use crate::source::{EachItem, EachRow};
 use crate::total::{Total, no_total};
-use arrays::{RecordBatch, ViewType};
-use colbits::NoMemory;
+use arrays::{NoMemory, RecordBatch, ViewType};
+use evaluate::Agg;
 use evaluate::column::column_at;
 use group::{Scalar, copied};
-use query::Agg;
 use std::alloc::Global;
 
 /// What an aggregate knows of the rows so far, a cell for each group.

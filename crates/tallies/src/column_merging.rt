@@ -13,7 +13,7 @@ use crate::column::TallyColumn;
 use crate::items::{merge_items, scalars_of};
 use crate::merging::{Bests, Counts, Sums, merge_each};
 use crate::total::Total;
-use colbits::NoMemory;
+use arrays::NoMemory;
 use group::Scalar;
 use std::alloc::Global;
 

@@ -13,8 +13,7 @@ ghost use Rattle.tallies.specs.Tallies.{AreTallies};
 use crate::best::put_better;
 use crate::best_number::BestNumber;
 use crate::end::End;
-use arrays::View;
-use colbits::NoMemory;
+use arrays::{NoMemory, View};
 use group::{Scalar, ScalarRef};
 use std::alloc::Global;
 

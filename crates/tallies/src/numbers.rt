@@ -4,7 +4,7 @@ ghost use Rattle.std.specs.Prelude.{◌≡◌, ◌<◌, All, List, length, true}
 ghost use Rattle.arrays.specs.Item.{Item};
 ghost use Rattle.arrays.specs.Kind as kind;
 ghost use Rattle.arrays.specs.Slot.{is_int};
-ghost use Rattle.query.specs.declared.expr.Agg.TheVariants.{Sum};
+ghost use Rattle.evaluate.specs.Aggs.{Sum};
 ghost use Rattle.tallies.specs.Columns.{show_number, show_total};
 ghost use Rattle.tallies.specs.Ends.{agg_at};
 ghost use Rattle.tallies.specs.Picked.{items_at};
@@ -16,8 +16,7 @@ use crate::best_number::BestNumber;
 use crate::end::End;
 use crate::source::Candidates;
 use crate::total::Total;
-use arrays::{IntType, Integer, View, ViewType};
-use types::with_integer;
+use arrays::{IntType, Integer, View, ViewType, with_integer};
 
 /// Adds the numbers of a column at these rows to the sums of their groups.
 pub(crate) fn add_sums(totals: &mut [Total], view: &View<'_>, rows: &[usize], ids: &[usize])

@@ -3,8 +3,8 @@
 ghost use Rattle.std.specs.Prelude.{◌≡◌, ◌^◌, ◌<◌, ◌++◌, ◌∷◌, ℕ, [], List, length, replicate, slice_index_or};
 ghost use Rattle.arrays.specs.Item.{Item, null};
 ghost use Rattle.arrays.specs.Values.{number_items};
-ghost use Rattle.query.specs.declared.expr.Agg.{Agg};
-ghost use Rattle.query.specs.declared.expr.Agg.TheVariants.{Rows, Count, Sum};
+ghost use Rattle.evaluate.specs.Agg.{Agg};
+ghost use Rattle.evaluate.specs.Aggs.{Rows, Count, Sum};
 ghost use Rattle.tallies.specs.Columns.{show_number, show_total};
 ghost use Rattle.tallies.specs.Ends.{agg_at};
 ghost use Rattle.tallies.specs.Tallies.{TallyShape, counted, tally_of};
@@ -18,7 +18,7 @@ use arrays::{Integer, Ints, View};
 pub(crate) trait Source<C> {
     ghost use Rattle.std.specs.Prelude.{ℕ, List};
     ghost use Rattle.arrays.specs.Item.{Item};
-    ghost use Rattle.query.specs.declared.expr.Agg.{Agg};
+    ghost use Rattle.evaluate.specs.Agg.{Agg};
     ghost use Rattle.tallies.specs.Tallies.{TallyShape};
 
     // Whose tally a cell is, and which.

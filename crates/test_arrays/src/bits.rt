@@ -4,7 +4,7 @@ mod growing;
 mod words;
 
 use crate::testing::{AllBut, has_bits};
-use colbits::{BitmapBuf, Buffer, NoMemory};
+use arrays::{BitmapBuf, Buffer, NoMemory};
 use std::test::Fail;
 
 /// Bits, and the bytes that hold them.

@@ -7,10 +7,9 @@ use crate::testing::{AllBut, has_bits};
 use arrays::BuildFault::OffsetsFull;
 use arrays::validity::{buffer_of, validity_of};
 use arrays::{
-    Array, BoolBuilder, BuildFault, DataType, IntBuilder, Integer, ListBuilder, OffsetWidth,
-    TextBuilder, ValidityBuilder, View, ViewType,
+    Array, BitmapBuf, BoolBuilder, Buffer, BuildFault, DataType, IntBuilder, Integer, ListBuilder,
+    NoMemory, OffsetWidth, TextBuilder, ValidityBuilder, View, ViewType,
 };
-use colbits::{BitmapBuf, Buffer, NoMemory};
 use std::alloc::Global;
 use std::test::Fail;
 use test_samples::{

@@ -6,8 +6,7 @@ mod worked;
 
 use Content::{Bitmap, Bytes, Cut, Int32s, Nothing, Offsets};
 use Inner::{Bits, Indices, Numbers, Texts};
-use arrays::{DataType, IntType, OffsetWidth, RawArray, Width};
-use colbits::Buffer;
+use arrays::{Buffer, DataType, IntType, OffsetWidth, RawArray, Width};
 use std::alloc::Global;
 use std::test::Fail;
 use test_samples::{Widths, list_of, lists_of, offset_bytes, raw};

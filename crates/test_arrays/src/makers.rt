@@ -1,16 +1,15 @@
 //! Tests of arrays that are made of lawful parts, and of copies.
 
 ghost use Rattle.std.specs.Prelude.{◌≡◌, pos, [], ◌∷◌, Some, IfOk};
-ghost use Rattle.layout.specs.Offsets.{AreOffsetBytes, offsets_in};
+ghost use Rattle.arrays.specs.Offsets.{AreOffsetBytes, offsets_in};
 ghost use Rattle.arrays.specs.Item.{int, null, text};
 ghost use Rattle.arrays.specs.Kind as kind;
 ghost use Rattle.arrays.specs.Kind.{int32};
 
 use arrays::{
-    Array, DataType, IntBuilder, IntType, LayoutFault, OffsetSlots, OffsetWidth, TextBuilder,
-    ViewType, Words,
+    Array, Buffer, DataType, IntBuilder, IntType, LayoutFault, OffsetSlots, OffsetWidth,
+    TextBuilder, ViewType, Words,
 };
-use colbits::Buffer;
 use std::alloc::Global;
 use std::process::Abort;
 use std::sync::Arc;

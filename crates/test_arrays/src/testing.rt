@@ -1,6 +1,6 @@
 //! Bits that tests make and compare.
 
-use colbits::{Bits, Places};
+use arrays::{Bits, Places};
 
 /// So many places, all 1 but the one, if it is among them.
 #[derive(Drop)]

@@ -4,8 +4,8 @@ ghost use Rattle.std.specs.Prelude.{◌≡◌, IfOk};
 ghost use Rattle.std.specs.Arc.{arc_value};
 
 use arrays::{Array, DataType, File, RecordBatch, Schema, validate};
-use arrow_json::laws::tell_file;
 use arrow_json::{print_file, read_file};
+use json_laws::whole::tell_file;
 use std::alloc::Global;
 use std::process::Abort;
 use std::sync::Arc;

@@ -5,11 +5,10 @@ use crate::{empty, node};
 use arrays::LayoutFault::BufferTooShort;
 use embed::{Loaded, RunFault};
 use flat::{FlatFault, Node};
-use intake::{IntakeFault, add_column, append, table_of};
+use intake::{AddFault, IntakeFault, Refusal, TableState, add_column, append, table_of};
 use std::alloc::Global;
 use std::process::Abort;
 use std::test::Fail;
-use table::{AddFault, Refusal, TableState};
 
 /// A batch of one row.
 const FILE: &[u8] =

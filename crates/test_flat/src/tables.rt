@@ -4,9 +4,8 @@ use crate::node;
 use crate::testing::{ALONE, CODES, UNKNOWN};
 use arrays::LayoutFault::BufferTooShort;
 use flat::{FlatFault, Node};
-use intake::{IntakeFault, append, table_of};
+use intake::{IntakeFault, Refusal, TableState, append, table_of};
 use std::test::Fail;
-use table::{Refusal, TableState};
 
 const PEOPLE: Node<'static> = node!(b"l", ALONE, 1, 0, [b"", b"\x05\0\0\0\0\0\0\0", b""]);
 

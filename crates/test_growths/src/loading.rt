@@ -11,7 +11,7 @@ use crate::stage::tell_workers;
 use crate::sweep::Trial;
 use crate::tell::tell_rows;
 use arrays::File;
-use loads::{LoadFault, OpenGate, load_all};
+use selqumar_core::{LoadFault, OpenGate, load_all};
 use shared::{
     Naming, Opening, Publish, Reader, Receipt, SharedTable, Shown, Version, Worker, open,
 };

@@ -10,25 +10,23 @@ use crate::samples::{SampleFile, SampleQuery};
 use crate::sweep::Trial;
 use crate::tell::Tell;
 use arrays::{
-    Array, BuildFault, DataType, Field, IntBuilder, ListBuilder, OffsetWidth, Schema, TextBuilder,
-    Words,
+    Array, BitmapBuf, BitmapBuilder, Bits, Buffer, BuildFault, DataType, Field, IntBuilder,
+    ListBuilder, NoMemory, OffsetWidth, Schema, TextBuilder, Words,
 };
-use arrow_json::{read_field, read_file, read_file_from_vec, read_query};
-use colbits::{BitmapBuf, BitmapBuilder, Bits, Buffer, NoMemory};
 use ends::memory::MemorySource;
 use ends::read_whole;
-use flat::{batch_of, schema_of};
-use intake::table_of;
+use intake::{batch_of, schema_of, table_of};
 use job::job;
 use json_file::{read_batches, read_text as read_file_text};
 use json_read::{Coding, read_head, read_schema};
 use json_scan::{find_member, read_integers, read_key, read_text, read_value};
 use json_stream::{read_batch, read_column, read_columns};
+use kernels::BothValid;
+use selqumar_core::{read_field, read_file, read_file_from_vec, read_query};
 use std::alloc::{AllocError, Global};
 use std::sync::Arc;
 use std::test::Fail;
 use test_samples::{INT8, INT32};
-use truths::BothValid;
 
 /// A maker of a buffer: of a bitmap but for the first.
 #[derive(Clone, Copy)]
@@ -154,9 +152,9 @@ pub(crate) static DOCUMENTS: [(&str, Maker); 23] = [
 
 #[rattlefmt::skip]
 pub(crate) static LENT: [(&str, Maker); 4] = [
-    ("flat::batch_of", Maker::Lent(Lent::Batch)),
-    ("flat::batch_of, a short buffer", Maker::Lent(Lent::ShortBatch)),
-    ("flat::schema_of", Maker::Lent(Lent::Schema)),
+    ("intake::batch_of", Maker::Lent(Lent::Batch)),
+    ("intake::batch_of, a short buffer", Maker::Lent(Lent::ShortBatch)),
+    ("intake::schema_of", Maker::Lent(Lent::Schema)),
     ("intake::table_of", Maker::Lent(Lent::Table)),
 ];
 

@@ -1,6 +1,6 @@
 //! Columns that are lent.
 
-use flat::Node;
+use intake::Node;
 
 /// The nodes of four columns of three rows each: lists of numbers, codes, large texts, and truth values in these bits.
 pub(crate) fn nodes(bits: &[u8]) -> [Node<'_>; 6] {

@@ -2,8 +2,8 @@
 
 ghost use Rattle.std.specs.Prelude.{◌≡◌, true};
 ghost use Rattle.std.specs.Arc.{arc_value};
-ghost use Rattle.query.specs.QueryShape.{query_shape};
-ghost use Rattle.query.specs.Fault.{fits};
+ghost use Rattle.selqumar_core.specs.QueryShape.{query_shape};
+ghost use Rattle.selqumar_core.specs.FirstFault.{fits};
 
 use crate::permit::Permit;
 use crate::refusals::Refused;
@@ -11,16 +11,12 @@ use crate::run::{Due, Ran, Scene, Stop, given, run, told};
 use crate::samples::{SampleFile, SampleQuery, table};
 use crate::sweep::Trial;
 use crate::tell::Tell;
-use answers::OpenGate;
 use arrays::File;
-use arrow_json::{print_file, read_query};
-use query::{Query, QueryText, resolve};
-use selqumar_core::ask;
+use selqumar_core::{OpenGate, Query, QueryText, Version, ask, print_file, read_query, resolve};
 use std::alloc::Global;
 use std::sync::Arc;
 use std::test::Fail;
 use std::thread::Threads;
-use table::Version;
 
 /// A call of a version.
 #[derive(Clone, Copy)]

@@ -2,11 +2,11 @@
 
 use crate::refusals::{Refused, begin, end};
 use crate::tell::Tell;
-use colbits::NoMemory;
+use arrays::NoMemory;
+use selqumar_core::TableState;
 use std::alloc::{AllocError, Global};
 use std::fmt;
 use std::test::Fail;
-use table::TableState;
 
 /// More bytes than are told of any call, so that telling wants no memory.
 const ROOM: usize = 1 << 16;

@@ -1,11 +1,10 @@
 //! Files, queries and a table that calls are tried on.
 
 use arrays::{File, RecordBatch};
-use arrow_json::read_file;
+use selqumar_core::{TableState, read_file};
 use std::alloc::Global;
 use std::sync::Arc;
 use std::test::Fail;
-use table::TableState;
 
 /// Two batches: texts, numbers, truth values, lists of numbers, lists of such lists, numbers of 64 bits, large texts, large
 /// lists of numbers, and codes.

@@ -12,6 +12,7 @@ use crate::sweep::Trial;
 use crate::tell::Tell;
 use arrays::{Field, RecordBatch};
 use intake::{append, table_of};
+use selqumar_core::{Ready, TableState};
 use shared::{
     Naming, OpenFault, Opening, Publish, Reader, Session, SharedTable, Shown, Worker, open,
     with_table,
@@ -20,7 +21,6 @@ use std::alloc::Global;
 use std::marker::Brand;
 use std::sync::{Arc, Wait};
 use std::test::Fail;
-use table::{Ready, TableState};
 
 /// What is made of the batch or of its schema.
 #[derive(Clone, Copy)]

@@ -2,12 +2,11 @@
 
 ghost use Rattle.std.specs.Prelude.{◌<◌, length};
 
-use arrays::{Array, File, RecordBatch, Schema, View, ViewType};
-use colbits::Buffer;
+use arrays::{Array, Buffer, File, RecordBatch, Schema, View, ViewType};
 use json_scan::Placed;
+use selqumar_core::{Ready, Version};
 use std::alloc::AllocError;
 use std::sync::Arc;
-use table::{Ready, Version};
 
 /// A value of which all is seen.
 pub(crate) trait Tell {

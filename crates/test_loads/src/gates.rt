@@ -1,7 +1,7 @@
 //! A gate that counts who passes, and at which one worker may wait for another.
 
 use crate::scenes::Passed;
-use crews::Gate;
+use loads::Gate;
 use std::hint::spin_loop;
 use std::sync::atomic::{AtomicBool, AtomicU64, Ordering};
 

@@ -2,7 +2,7 @@
 
 ghost use Rattle.std.specs.Prelude.{◌≡◌, length};
 
-use crews::{Task, run_all};
+use loads::{Task, run_all};
 use shared::{Naming, Reader, Worker};
 use std::alloc::Global;
 use std::test::Fail;

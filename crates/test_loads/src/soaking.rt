@@ -3,7 +3,7 @@
 use crate::hands::{Hand, work_at_once};
 use crate::scenes::Soak;
 use arrays::{Array, DataType, Field, IntBuilder, RecordBatch, Schema};
-use crews::Task;
+use loads::Task;
 use shared::{Naming, Publish, Reader, Receipt, Refusal, SharedTable, Shown, Version, Worker};
 use std::alloc::Global;
 use std::sync::atomic::{AtomicBool, Ordering};

@@ -2,17 +2,15 @@
 
 ghost use Rattle.std.specs.Prelude.{◌≡◌, All, IfOk, IfSome, length, map, true};
 ghost use Rattle.std.specs.Arc.{arc_value};
-ghost use Rattle.types.specs.Shape.{kind_of_field};
+ghost use Rattle.arrays.specs.Shape.{kind_of_field};
 ghost use Rattle.arrays.specs.Batch.{Batch};
-ghost use Rattle.query.specs.QueryShape.{query_shape};
-ghost use Rattle.query.specs.Fault.{fits};
+ghost use Rattle.answers.specs.QueryShape.{query_shape};
+ghost use Rattle.answers.specs.FirstFault.{fits};
 ghost use Rattle.answers.specs.Answers.{all_rows, first_fields};
 
-use answers::{Answer, Gate, answer, answer_alone};
+use answers::{Answer, Gate, Query, QueryFault, Scalar, answer, answer_alone, resolve};
 use arrays::RecordBatch;
 use arrow_json::{read_file, read_query};
-use group::Scalar;
-use query::{Query, QueryFault, resolve};
 use std::alloc::{AllocError, Global};
 use std::process::Abort;
 use std::sync::Arc;

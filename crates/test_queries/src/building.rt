@@ -1,10 +1,10 @@
 //! What tests make queries of.
 
+use answers::{Agg, Expr, Op, QueryText};
+use arrays::{DataType, Field, INT32, IntType, Schema, Width};
 use arrayvec::ArrayVec;
-use query::{Agg, Expr, Op, QueryText};
 use std::alloc::{AllocError, Global};
 use std::test::Fail;
-use types::{DataType, Field, INT32, IntType, Schema, Width};
 
 const UINT64: IntType = IntType {
     bits: Width::W64,

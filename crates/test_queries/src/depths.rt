@@ -1,7 +1,7 @@
 use crate::building::{column, over, rows_where, schema};
+use answers::QueryFault::{TooDeep, WrongKind};
+use answers::{Expr, Op, Query, resolve};
 use arrayvec::ArrayVec;
-use query::QueryFault::{TooDeep, WrongKind};
-use query::{Expr, Op, Query, resolve};
 use std::alloc::{AllocError, Global};
 use std::test::Fail;
 

@@ -1,5 +1,5 @@
-use query::QueryFault::{AmbiguousColumn, NoColumn, NoMemory, Overflow, TooDeep, WrongKind};
-use query::query_fault_text;
+use answers::QueryFault::{AmbiguousColumn, NoColumn, NoMemory, Overflow, TooDeep, WrongKind};
+use answers::query_fault_text;
 use std::test::Fail;
 
 #[test]

@@ -1,11 +1,11 @@
 //! Filters, as they are at the rows of a slice.
 
+use answers::{Query, resolve};
 use arrays::{RecordBatch, View, ViewType};
 use arrow_json::{read_file, read_query};
 use evaluate::filter::evaluate_filter;
 use evaluate::slice::Slice;
 use evaluate::values::Values;
-use query::{Query, resolve};
 use std::alloc::{AllocError, Global};
 use std::process::Abort;
 use std::test::Fail;

@@ -1,7 +1,7 @@
 //! Queries of JSON: what is read of them, and what is reported of those that can't be read.
 
+use answers::QueryText;
 use arrow_json::{fault_text, read_query};
-use query::QueryText;
 use std::alloc::Global;
 use std::process::Abort;
 use std::test::Fail;

@@ -1,8 +1,8 @@
 use crate::building::{over, rows_where, schema};
+use answers::QueryFault::{AmbiguousColumn, NoColumn, WrongKind};
+use answers::{Expr, Op, Query, QueryFault, QueryText, resolve};
 use arrayvec::ArrayVec;
 use arrow_json::read_query;
-use query::QueryFault::{AmbiguousColumn, NoColumn, WrongKind};
-use query::{Expr, Op, Query, QueryFault, QueryText, resolve};
 use std::alloc::Global;
 use std::process::Abort;
 use std::test::Fail;

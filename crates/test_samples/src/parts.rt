@@ -1,8 +1,7 @@
 //! Arrays of the bytes of their buffers.
 
 use crate::widths::offset_bytes;
-use arrays::{Array, DataType, IntType, OffsetWidth, RawArray, validate};
-use colbits::Buffer;
+use arrays::{Array, Buffer, DataType, IntType, OffsetWidth, RawArray, validate};
 use std::alloc::Global;
 use std::test::Fail;
 

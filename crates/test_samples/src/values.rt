@@ -1,8 +1,7 @@
 //! Arrays of values, as tables of cases say them.
 
 use crate::parts::raw;
-use arrays::{DataType, IntType, OffsetWidth, RawArray, Width};
-use colbits::{BitmapBuf, Buffer};
+use arrays::{BitmapBuf, Buffer, DataType, IntType, OffsetWidth, RawArray, Width};
 use std::alloc::Global;
 use std::test::Fail;
 

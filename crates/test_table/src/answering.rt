@@ -2,14 +2,12 @@
 
 use crate::batches::{ONE_AND_TWO, THREE_AND_X};
 use crate::scenes::{Flat, field_of};
-use answers::{Answer, OpenGate};
 use arrayvec::ArrayVec;
-use query::{Agg, Query, QueryFault};
 use std::alloc::Global;
 use std::process::Abort;
 use std::sync::Arc;
 use std::test::Fail;
-use table::{TableState, Version};
+use table::{Agg, Answer, OpenGate, Query, QueryFault, TableState, Version};
 use test_samples::{batch_of, fields_of};
 
 /// By the second column: how many rows there are, and the sum of the first.

@@ -3,10 +3,9 @@
 ghost use Rattle.std.specs.Prelude.{◌<◌, length};
 
 use arrays::RecordBatch;
-use group::{ColumnStats, Scalar};
 use std::alloc::Global;
 use std::sync::Arc;
-use table::{Entry, Version};
+use table::{ColumnStats, Entry, Scalar, Version};
 use test_samples::{Shown, shows};
 
 /// What is true of a version.

@@ -2,8 +2,7 @@
 
 use crate::facts::{Facts, shows_all};
 use crate::scenes::{End, Place, Step, field_of};
-use arrays::RecordBatch;
-use colbits::NoMemory;
+use arrays::{NoMemory, RecordBatch};
 use shared::{
     GatherCause, GatherFault, Naming, OpenFault, Publish, Reader, Receipt, Session, SharedTable,
     Shown, Version, Worker, with_table,

@@ -12,7 +12,7 @@ use Rattle.arrays.specs.Layout.{is_valid_in}
 use Rattle.arrays.specs.Fault.{is_validity_short, bytes_for}
 use Rattle.arrays.specs.FromParts.{show_bits}
 use Rattle.arrays.specs.Seen.{Seen, no_entries}
-use Rattle.layout.proofs.ListLemmas.{map-range-below}
+use Rattle.arrays.proofs.RangeLists.{map-range-below}
 use Rattle.arrays.specs.Shown.{kept, shown, validity_of}
 use Rattle.truths.specs.Truth.{truth_at, truths_of}
 use Rattle.arrays.proofs.ValidityLemmas.{IsKept}

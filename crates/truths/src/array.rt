@@ -6,7 +6,7 @@ ghost use Rattle.colbits.specs.Bit.{bit, bit_in};
 ghost use Rattle.arrays.specs.Kind as kind;
 ghost use Rattle.arrays.specs.Shown.{kept, shown};
 ghost use Rattle.truths.specs.Truth.{truths_of};
-ghost use Rattle.types.specs.Limits.{most_slots};
+ghost use Rattle.arrays.specs.Limits.{most_slots};
 
 use arrays::Array;
 use arrays::validity::{buffer_of, validity_of};

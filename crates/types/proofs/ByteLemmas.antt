@@ -8,7 +8,7 @@ use Rattle.colbits.specs.Bit.{bit}
 use Rattle.colbits.specs.Slice.{slice}
 use Rattle.types.specs.declared.offset_width.OffsetWidth.{OffsetWidth}
 use Rattle.types.specs.declared.offset_width.OffsetWidth.TheVariants.{Narrow, Wide}
-use Rattle.types.specs.OffsetWidth.{offset_type}
+use Rattle.types.specs.OffsetSize.{offset_type}
 use Rattle.types.specs.Number.{number_at}
 
 -- an element of a part

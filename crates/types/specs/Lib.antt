@@ -3,6 +3,6 @@ pub mod Shape
 pub mod First
 pub mod Schema
 pub mod Number
-pub mod Code
+pub mod FieldCode
 pub mod Limits
-pub mod OffsetWidth
+pub mod OffsetSize

@@ -4,7 +4,6 @@
 
 pub mod data_type;
 pub mod depth;
-pub mod dispatch;
 pub mod int_type;
 pub mod integer;
 pub mod limits;
@@ -17,6 +16,6 @@ pub use depth::{has_dict_in_list, is_too_deep};
 pub use int_type::{INT32, INT64, IntType, Width};
 pub use integer::{Integer, Packed};
 pub use limits::MOST_SLOTS;
-pub use numbers::{int32_at, natural_at, number_at, push_number};
+pub use numbers::{int32_at, natural_at};
 pub use offset_width::OffsetWidth;
 pub use schema::{Schema, SchemaFault};

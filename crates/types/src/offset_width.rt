@@ -2,7 +2,7 @@
 
 ghost use Rattle.std.specs.Prelude.{◌≡◌, pos, ◌+◌, ◌*◌, ◌≤◌, ◌++◌, false, length, OnOk, OnErr};
 ghost use Rattle.types.specs.Number.{bytes_of_number, is_negative, natural, number_at};
-ghost use Rattle.types.specs.OffsetWidth.{is_full, most_of, offset_type, size_of};
+ghost use Rattle.types.specs.OffsetSize.{is_full, most_of, offset_type, size_of};
 
 use crate::integer::Integer;
 use crate::limits::MOST_SLOTS;

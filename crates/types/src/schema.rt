@@ -33,7 +33,7 @@ pub struct Schema {
 impl Model for Schema {
     ghost use Rattle.std.specs.Prelude.{◌≡◌, List, None};
     ghost use Rattle.std.specs.Coded.{coded_list};
-    ghost use Rattle.types.specs.Code.{field_code};
+    ghost use Rattle.types.specs.FieldCode.{field_code};
     ghost use Rattle.types.specs.Shape.{FieldShape, fields_of};
 
     ghost Value = { List FieldShape };

@@ -9,7 +9,7 @@ ghost use Rattle.arrays.specs.Shown.{shown};
 ghost use Rattle.arrays.specs.Slot.{item_of_text};
 ghost use Rattle.arrays.specs.Values.{items_of_texts};
 ghost use Rattle.types.specs.Limits.{most_slots};
-ghost use Rattle.types.specs.OffsetWidth.{is_full};
+ghost use Rattle.types.specs.OffsetSize.{is_full};
 
 use super::fault::BuildFault;
 use super::offsets::OffsetsBuilder;
@@ -30,7 +30,7 @@ pub struct TextBuilder {
 
 impl Model for TextBuilder {
     ghost use Rattle.std.specs.Prelude.{◌≡◌, false, length};
-    ghost use Rattle.types.specs.OffsetWidth.{is_full};
+    ghost use Rattle.types.specs.OffsetSize.{is_full};
     ghost use Rattle.arrays.specs.Column.{TextColumn, text_column_code};
     ghost use Rattle.arrays.specs.Growing.{AreTextsOf, cut_texts};
 

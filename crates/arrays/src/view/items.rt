@@ -6,8 +6,9 @@ ghost use Rattle.arrays.specs.Slot.{item_of, holds_at, is_int, is_list, is_text,
 ghost use Rattle.types.specs.Kind as kind;
 ghost use Rattle.types.specs.Kind.{item_kind};
 
+use crate::numbers::number_at;
 use crate::view::{View, ViewType};
-use types::{IntType, OffsetWidth, number_at};
+use types::{IntType, OffsetWidth};
 
 impl<'a> View<'a> {
     /// Number `i` of an integer view, none where the slot is null.

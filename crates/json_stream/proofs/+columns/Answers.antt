@@ -1,12 +1,12 @@
 use Rattle.std.proofs.Common.{◌≡◌, ◌∙◌, ◌-◌, drop, length, ap, sym, subst}
 use Rattle.std.specs.Prelude.{IfOk}
-use Rattle.types.specs.declared.data_type.Field.{Field, out-Field}
-use Rattle.types.specs.declared.offset_width.OffsetWidth.{OffsetWidth}
-use Rattle.types.specs.declared.offset_width.OffsetWidth.TheVariants.{Narrow, Wide}
-use Rattle.types.proofs.ShapeLemmas.{kind_of-List, kind_of-LargeList}
+use Rattle.arrays.specs.Field.{Field, out-Field}
+use Rattle.arrays.specs.OffsetWidth.{OffsetWidth}
+use Rattle.arrays.specs.OffsetWidths.{Narrow, Wide}
+use Rattle.arrays.proofs.ShapeLemmas.{kind_of-List, kind_of-LargeList}
 use Rattle.arrays.specs.Kind as kind
 use Rattle.arrays.specs.Kind.{Kind, kind_of}
-use Rattle.serde_json.specs.Data.{Data, object}
+use Rattle.json_read.specs.Data.{Data, object}
 use Rattle.json_read.specs.JsonBatch.{HoldsColumn}
 use Rattle.json_scan.specs.Spelling.{SpellsAt}
 use Rattle.json_stream.proofs.ListLemmas.{child_below, child_there, child_held, lists_held}

@@ -10,7 +10,7 @@ ghost use Rattle.arrays.specs.Seen.{valid_in};
 ghost use Rattle.arrays.specs.Slot.{holds_at, is_text, item_at};
 ghost use Rattle.arrays.specs.Order.{order};
 ghost use Rattle.kernels.specs.Wanted.{wants};
-ghost use Rattle.types.specs.Limits.{most_slots};
+ghost use Rattle.arrays.specs.Limits.{most_slots};
 
 use super::packed::{are_equal, are_less, chosen};
 use super::wanted::Wanted;

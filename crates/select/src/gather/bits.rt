@@ -2,15 +2,15 @@
 
 ghost use Rattle.std.specs.Prelude.{◌≡◌, ◌&&◌, ◌/◌, ◌+◌, ℕ, ◌≤◌, None, drop, length, map, nat_lt, slice_index_or, IfOk};
 ghost use Rattle.std.specs.List.{range_with_len};
-ghost use Rattle.colbits.specs.Bit.{bit_in};
-ghost use Rattle.colbits.specs.Bitmap.{IsBitmapOf};
+ghost use Rattle.arrays.specs.Bit.{bit_in};
+ghost use Rattle.arrays.specs.Bitmap.{IsBitmapOf};
 ghost use Rattle.arrays.specs.Packed.{IsBufferOf};
 ghost use Rattle.arrays.specs.Shown.{kept};
 ghost use Rattle.select.specs.Stored.{is_stored};
 
 use crate::rows::{Place, Rows};
 use arrays::validity::is_valid;
-use colbits::{Bits, Buffer, NoMemory};
+use arrays::{Bits, Buffer, NoMemory};
 use std::alloc::Global;
 
 /// The validity of the picked rows of slots of this validity: none where each is a row, and valid.

@@ -8,8 +8,7 @@ ghost use Rattle.select.specs.Picked.{IsPick, picked};
 
 use super::bits::{picked_bits, picked_validity};
 use crate::rows::Rows;
-use arrays::{Array, View};
-use colbits::NoMemory;
+use arrays::{Array, NoMemory, View};
 use std::alloc::Global;
 
 /// The picked rows of a view of truth values.

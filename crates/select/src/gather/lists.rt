@@ -7,7 +7,7 @@ ghost use Rattle.arrays.specs.Values.{IsRange, item_of_range, items_of_lists};
 ghost use Rattle.select.specs.Fault.{IsFull};
 ghost use Rattle.select.specs.Picked.{IsPick, picked, picked_at};
 ghost use Rattle.select.specs.Ranges.{rows_of};
-ghost use Rattle.types.specs.Limits.{most_slots};
+ghost use Rattle.arrays.specs.Limits.{most_slots};
 
 use crate::fault::SelectFault;
 use crate::picks::Picks;

@@ -10,10 +10,8 @@ ghost use Rattle.select.specs.Stored.{AreStored};
 
 use super::bits::picked_validity;
 use crate::rows::Rows;
-use arrays::{Array, IntType, Integer, Ints, View};
-use colbits::{Buffer, NoMemory};
+use arrays::{Array, Buffer, IntType, Integer, Ints, NoMemory, View, with_integer};
 use std::alloc::Global;
-use types::with_integer;
 
 /// The picked rows of a view of integers.
 pub(super) fn gather_numbers<R: Rows>(

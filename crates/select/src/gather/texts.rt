@@ -11,14 +11,13 @@ ghost use Rattle.arrays.specs.Values.{items_of_texts};
 ghost use Rattle.select.specs.Fault.{IsFull};
 ghost use Rattle.select.specs.Picked.{IsPick, picked, picked_at};
 ghost use Rattle.select.specs.Texts.{AreOffsetsOf, all_bytes, bytes_in};
-ghost use Rattle.types.specs.declared.offset_width.OffsetWidth.TheVariants.{Wide};
-ghost use Rattle.types.specs.OffsetWidth.{is_full, most_of};
+ghost use Rattle.arrays.specs.OffsetWidths.{Wide};
+ghost use Rattle.arrays.specs.OffsetSize.{is_full, most_of};
 
 use super::bits::picked_validity;
 use crate::fault::SelectFault;
 use crate::rows::Rows;
-use arrays::{Array, OffsetSlots, OffsetWidth, Texts, View};
-use colbits::{Buffer, NoMemory};
+use arrays::{Array, Buffer, NoMemory, OffsetSlots, OffsetWidth, Texts, View};
 use std::alloc::Global;
 
 /// The picked rows of a view of texts without a dictionary whose offsets are of this width.

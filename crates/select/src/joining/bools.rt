@@ -6,10 +6,9 @@ ghost use Rattle.arrays.specs.Kind as kind;
 ghost use Rattle.arrays.specs.Seen.{Seen};
 ghost use Rattle.arrays.specs.Shown.{shown};
 ghost use Rattle.arrays.specs.Lengths.{joined_items};
-ghost use Rattle.types.specs.Limits.{most_slots};
+ghost use Rattle.arrays.specs.Limits.{most_slots};
 
-use arrays::{Array, BoolBuilder, View};
-use colbits::NoMemory;
+use arrays::{Array, BoolBuilder, NoMemory, View};
 use std::alloc::Global;
 
 /// The truth values of views, which have so many slots together.

@@ -12,12 +12,11 @@ ghost use Rattle.arrays.specs.Shown.{shown};
 ghost use Rattle.select.specs.Fault.{IsFull};
 ghost use Rattle.select.specs.Joined.{IsEncoded, is_content_too_big, joined, joined_codes, joined_entries, shifted};
 ghost use Rattle.arrays.specs.Lengths.{joined_items};
-ghost use Rattle.types.specs.Limits.{most_slots};
+ghost use Rattle.arrays.specs.Limits.{most_slots};
 
 use super::{slots_of, texts};
 use crate::fault::SelectFault;
-use arrays::{Array, INT32, IntBuilder, OffsetWidth, View, Words};
-use colbits::NoMemory;
+use arrays::{Array, INT32, IntBuilder, NoMemory, OffsetWidth, View, Words};
 use std::alloc::Global;
 use std::sync::Arc;
 

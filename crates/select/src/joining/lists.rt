@@ -7,16 +7,15 @@ ghost use Rattle.arrays.specs.Lengths.{inner_items, is_past, is_too_big, joined_
 ghost use Rattle.arrays.specs.Item.{null};
 ghost use Rattle.arrays.specs.Seen.{Seen};
 ghost use Rattle.arrays.specs.Slot.{is_list};
-ghost use Rattle.types.specs.declared.data_type.Field.{out-Field};
+ghost use Rattle.arrays.specs.Field.{out-Field};
 ghost use Rattle.select.specs.Children.{AreChildren, IsChild};
 ghost use Rattle.select.specs.Fault.{IsFull};
-ghost use Rattle.types.specs.Limits.{most_slots};
+ghost use Rattle.arrays.specs.Limits.{most_slots};
 
 use crate::fault::SelectFault;
 use crate::gather::{gather_picks, spread_out};
 use crate::rows::FirstRows;
-use arrays::{Array, Field, ListBuilder, OffsetWidth, View};
-use colbits::NoMemory;
+use arrays::{Array, Field, ListBuilder, NoMemory, OffsetWidth, View};
 use std::alloc::Global;
 
 /// How long the lists of views are, which have so many slots together, with offsets of this width.

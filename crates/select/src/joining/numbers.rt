@@ -7,12 +7,11 @@ ghost use Rattle.arrays.specs.Seen.{Seen};
 ghost use Rattle.arrays.specs.Shown.{shown};
 ghost use Rattle.select.specs.Joined.{AreNumbersOf, TellsNulls};
 ghost use Rattle.arrays.specs.Lengths.{joined_items};
-ghost use Rattle.types.specs.Limits.{most_slots};
+ghost use Rattle.arrays.specs.Limits.{most_slots};
 
 use super::valid::joined_validity;
 use arrays::validity::buffer_of;
-use arrays::{Array, IntType, View};
-use colbits::{Buffer, NoMemory};
+use arrays::{Array, Buffer, IntType, NoMemory, View};
 use std::alloc::Global;
 
 /// The numbers of views of an integer type, which have so many slots together.

@@ -7,8 +7,8 @@ ghost use Rattle.arrays.specs.Lengths.{joined_items, text_bytes};
 ghost use Rattle.arrays.specs.Seen.{Seen};
 ghost use Rattle.arrays.specs.Shown.{shown};
 ghost use Rattle.select.specs.Fault.{IsFull};
-ghost use Rattle.types.specs.Limits.{most_slots};
-ghost use Rattle.types.specs.OffsetWidth.{is_full};
+ghost use Rattle.arrays.specs.Limits.{most_slots};
+ghost use Rattle.arrays.specs.OffsetSize.{is_full};
 
 use crate::fault::SelectFault;
 use arrays::{Array, OffsetWidth, TextBuilder, View};

@@ -2,16 +2,15 @@
 
 ghost use Rattle.std.specs.Prelude.{◌≡◌, ℕ, ◌+◌, ◌<◌, ◌≤◌, Option, false, is_some, length, not, slice_index_or, IfOk};
 ghost use Rattle.std.specs.List.{list_all};
-ghost use Rattle.colbits.specs.Bit.{bit_in};
+ghost use Rattle.arrays.specs.Bit.{bit_in};
 ghost use Rattle.arrays.specs.Seen.{Seen};
 ghost use Rattle.arrays.specs.Shown.{kept};
 ghost use Rattle.select.specs.Joined.{AreStarts, IsPlace, joined_valid};
 ghost use Rattle.arrays.specs.Lengths.{joined_items};
-ghost use Rattle.types.specs.Limits.{most_slots};
+ghost use Rattle.arrays.specs.Limits.{most_slots};
 
-use arrays::View;
 use arrays::validity::{valid_word, validity_of};
-use colbits::{BitmapBuf, NoMemory, Places};
+use arrays::{BitmapBuf, NoMemory, Places, View};
 use std::alloc::Global;
 
 /// The validity of the slots of views, which have so many together: none where each of them is valid.

@@ -1,7 +1,7 @@
 //! Tests of bits in the making.
 
 use crate::testing::AllBut;
-use colbits::{BitmapBuf, BitmapBuilder};
+use arrays::{BitmapBuf, BitmapBuilder};
 use std::alloc::Global;
 use std::process::Abort;
 use std::test::Fail;

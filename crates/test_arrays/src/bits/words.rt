@@ -2,7 +2,7 @@
 
 ghost use Rattle.std.specs.Prelude.{◌≡◌, ◌+◌, ◌≤◌, length};
 
-use colbits::{BitmapBuf, Bits, NoMemory};
+use arrays::{BitmapBuf, Bits, NoMemory};
 use std::alloc::Global;
 use std::process::Abort;
 

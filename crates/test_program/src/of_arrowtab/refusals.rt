@@ -1,9 +1,9 @@
 //! How refusals are reported.
 
 use super::assert_case;
+use arrowtab::Refusal;
 use arrowtab::refusal::refusal_text;
 use std::alloc::Global;
-use table::Refusal;
 
 /// Each refusal, and how it is reported.
 static TOLD: [(Refusal, &str); 6] = [

@@ -4,10 +4,10 @@ use Rattle.std.proofs.lemmas.List.{length-map, take_all}
 use Rattle.std.proofs.lemmas.List.Elements.{All-nil}
 use Rattle.std.specs.Arc.{arc_value}
 use Rattle.arrays.specs.Batch.{Batch, rows_of}
-use Rattle.types.specs.Shape.{kind_of_field}
+use Rattle.arrays.specs.Shape.{kind_of_field}
 use Rattle.query.specs.QueryShape.{query_shape}
-use Rattle.query.specs.Columns.{sort_at}
-use Rattle.query.specs.Fault.{agg_fault, fits}
+use Rattle.query.specs.CalledColumns.{sort_at}
+use Rattle.query.specs.FirstFault.{agg_fault, fits}
 use Rattle.query.specs.declared.expr.Agg.{Agg}
 use Rattle.answers.specs.Answers.{all_rows, first_fields}
 use Rattle.tallies.specs.Kinds.{AreComparable}

@@ -3,7 +3,7 @@ use Rattle.std.specs.Int.RustNames.{count_ones}
 use Rattle.std.proofs.lemmas.List.{length-take}
 use Rattle.std.proofs.lemmas.List.FromFn.{length-map-range_with_len}
 use Rattle.std.proofs.lemmas.List.Sums.{count_by-le-length}
-use Rattle.colbits.proofs.WordLemmas.{ones-more, ones-of_word}
+use Rattle.arrays.proofs.WordLemmas.{ones-more, ones-of_word}
 use Rattle.answers.specs.Masks.{is_set}
 use Rattle.answers.proofs.MaskLemmas.{all-ones, reported, reported-count, cell_of_group}
 use Rattle.answers.proofs.mask.count.Goals as goal

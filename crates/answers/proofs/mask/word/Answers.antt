@@ -1,5 +1,5 @@
 use Rattle.std.proofs.Common.{◌&&◌, ◌∙◌}
-use Rattle.colbits.proofs.WordLemmas.{bit_in-and}
+use Rattle.arrays.proofs.WordLemmas.{bit_in-and}
 use Rattle.answers.proofs.mask.word.Goals as goal
 
 pub returns : goal.returns

@@ -4,9 +4,9 @@ use Rattle.std.specs.Arc.{arc_value}
 use Rattle.std.proofs.lemmas.List.{length-map}
 use Rattle.std.proofs.lemmas.List.Elements.{All-nil}
 use Rattle.arrays.specs.Batch.{Batch, Table, rows_of}
-use Rattle.types.specs.Shape.{kind_of_field}
+use Rattle.arrays.specs.Shape.{kind_of_field}
 use Rattle.query.specs.QueryShape.{query_shape}
-use Rattle.query.specs.Fault.{fits}
+use Rattle.query.specs.FirstFault.{fits}
 use Rattle.query.specs.declared.fault.QueryFault.TheVariants.{Overflow}
 use Rattle.answers.specs.Answers.{all_rows, first_fields}
 use Rattle.answers.specs.Pieces.{HasRun, IsGood, between}

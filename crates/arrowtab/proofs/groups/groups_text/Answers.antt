@@ -1,7 +1,7 @@
 use Rattle.std.proofs.Common.{map}
-use Rattle.answers.specs.Answers.{group_shape}
-use Rattle.query.specs.QueryShape.{query_shape}
-use Rattle.query.specs.Resolved.{named}
+use Rattle.table.specs.Answers.{group_shape}
+use Rattle.table.specs.QueryShape.{query_shape}
+use Rattle.table.specs.Resolved.{named}
 use Rattle.reports.proofs.QueryLemmas.{unanswered}
 use Rattle.arrowtab.proofs.groups.groups_text.Goals as goal
 

@@ -5,7 +5,7 @@ use Rattle.shared.specs.Balance.{IsOfWorkers}
 use Rattle.shared.specs.Hand.{AreNew, Hand, HasAllItsPairs, columns_of_hand}
 use Rattle.shared.specs.Known.{known_of}
 use Rattle.std.specs.Prelude.{All, sum_by}
-use Rattle.types.specs.declared.data_type.Field.{Field}
+use Rattle.arrays.specs.Field.{Field}
 use Rattle.arrowtab.specs.Worked.{Holds}
 use Rattle.arrowtab.proofs.TogetherLemmas.{loaded_there, ok_holds, stopped_all, stopped_stay, stopped_there, written_back}
 use Rattle.arrowtab.proofs.together.load_by.Goals as goal

@@ -1,6 +1,6 @@
 use Rattle.std.proofs.Common.{refl, subst}
-use Rattle.query.specs.Resolved.{named}
-use Rattle.json_query.specs.QueryDocument.{ReadsQueryText}
+use Rattle.table.specs.Resolved.{named}
+use Rattle.arrow_json.specs.QueryDocument.{ReadsQueryText}
 use Rattle.reports.specs.QueryFaults.{IsUnreadQuery}
 use Rattle.arrowtab.proofs.AnswerLemmas.{text_unread}
 use Rattle.arrowtab.proofs.wanted.wanted_of.Goals as goal

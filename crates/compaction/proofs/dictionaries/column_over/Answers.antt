@@ -5,7 +5,7 @@ use Rattle.std.specs.declared.sync.Arc.{Arc}
 use Rattle.arrays.specs.Dictionary.{over}
 use Rattle.arrays.specs.Kind as kind
 use Rattle.arrays.specs.Seen.{Seen}
-use Rattle.layout.proofs.ChildLemmas.{same_kinds}
+use Rattle.arrays.proofs.ChildLemmas.{same_kinds}
 use Rattle.compaction.specs.Columns.{IsOver}
 use Rattle.compaction.proofs.JoinedLemmas.{is-over}
 use Rattle.compaction.proofs.dictionaries.column_over.Goals as goal

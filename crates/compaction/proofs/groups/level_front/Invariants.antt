@@ -3,11 +3,11 @@ use Rattle.std.specs.Arc.{arc_value}
 use Rattle.arrays.specs.Batch.{column}
 use Rattle.arrays.specs.Kind.{Kind}
 use Rattle.compaction.specs.Fronts.{IsOfKind}
-use Rattle.compaction.specs.Groups.{together}
+use Rattle.compaction.specs.Neighbours.{together}
 use Rattle.compaction.specs.Sizes.{size_at}
 use Rattle.compaction.proofs.FrontLemmas.{tables_of}
 use Rattle.compaction.proofs.groups.level_front.Given as goal
-use Rattle.types.specs.Limits.{most_slots}
+use Rattle.arrays.specs.Limits.{most_slots}
 
 abbrev pub invariant-loop-n : goal.invariant-loop-n
 invariant-loop-n l = record {

@@ -2,10 +2,10 @@ use Rattle.std.proofs.Common.{◌≡◌, ◌∙◌, ℕ, ◌+◌, ◌<◌, ◌�
 use Rattle.std.proofs.lemmas.Bool.{cases_lt}
 use Rattle.arrays.specs.Batch.{Batch}
 use Rattle.compaction.specs.Fronts.{IsLongest, has_few}
-use Rattle.compaction.specs.Groups.{together}
+use Rattle.compaction.specs.Neighbours.{together}
 use Rattle.compaction.proofs.FrontLemmas.{few-fronts, few-is, longest-stop, many-is, rows-more, tables_of}
 use Rattle.compaction.proofs.groups.rows_front.Goals as goal
-use Rattle.types.specs.Limits.{most_slots}
+use Rattle.arrays.specs.Limits.{most_slots}
 
 past-either : (m n most : ℕ) → most ≡ min most_slots m → most < n → (m < n) ⊎ (most_slots < n)
 past-either m n most is more = elim (cases_lt m n) [ inl lt ↦ inl lt | inr le ↦ inr (omega (arith, is, more, le)) ]

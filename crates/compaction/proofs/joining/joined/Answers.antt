@@ -6,7 +6,7 @@ use Rattle.std.proofs.lemmas.Slice.Zip.{AllZip-long}
 use Rattle.arrays.specs.Batch.{Batch, batch_fault}
 use Rattle.arrays.specs.Shape.{FieldShape}
 use Rattle.compaction.specs.Columns.{AreJoinable, IsColumnOf, IsJoined}
-use Rattle.compaction.specs.Groups.{together}
+use Rattle.compaction.specs.Neighbours.{together}
 use Rattle.compaction.specs.Under.{NamesFront}
 use Rattle.compaction.proofs.FrontLemmas.{Shared, tables_of, wide-at}
 use Rattle.compaction.proofs.JoinedLemmas.{SharedWords, batch-rows, batches-of, column-made, columns-all, columns-lawful, columns-more, count-words, joinable, words-at, words_of, zipped-more}

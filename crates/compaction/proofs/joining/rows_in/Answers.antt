@@ -1,6 +1,6 @@
 use Rattle.std.proofs.Common.{◌≡◌, ◌∙◌, ◌+◌, ap, arith, length, take}
 use Rattle.arrays.specs.Batch.{Batch}
-use Rattle.compaction.specs.Groups.{together}
+use Rattle.compaction.specs.Neighbours.{together}
 use Rattle.compaction.proofs.FrontLemmas.{rows-front, rows-more, tables_of}
 use Rattle.compaction.proofs.joining.rows_in.Goals as goal
 

@@ -1,5 +1,5 @@
 use Rattle.std.proofs.Common.{◌≡◌, length, take}
-use Rattle.compaction.specs.Groups.{together}
+use Rattle.compaction.specs.Neighbours.{together}
 use Rattle.compaction.proofs.FrontLemmas.{tables_of}
 use Rattle.compaction.proofs.joining.rows_in.Given as goal
 

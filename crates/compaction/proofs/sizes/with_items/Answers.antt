@@ -1,6 +1,6 @@
 use Rattle.std.proofs.Common.{◌∙◌, ◌+◌, ap, arith, sym}
 use Rattle.arrays.specs.Item.{list, list_of, null}
-use Rattle.types.specs.declared.offset_width.OffsetWidth.TheVariants.{Narrow}
+use Rattle.arrays.specs.OffsetWidths.{Narrow}
 use Rattle.arrays.specs.Kind as kind
 use Rattle.arrays.specs.Lengths.{is_past}
 use Rattle.compaction.proofs.SizeLemmas.{if-none, list-size, past-with, size-less}

@@ -3,7 +3,7 @@ use Rattle.std.specs.Arc.{arc_value}
 use Rattle.std.specs.List.{AllZip}
 use Rattle.std.specs.declared.alloc.Global.{Global}
 use Rattle.std.specs.declared.vec.Vec.{Vec}
-use Rattle.group.specs.Columns.{AreJoined}
+use Rattle.group.specs.StatsOfColumns.{AreJoined}
 use Rattle.group.specs.declared.stats.ColumnStats.{ColumnStats}
 use Rattle.compaction.proofs.StatisticsLemmas.{AreOfFirst, first-all, first-count, first-few, first-more, first-one, rest-at, rest-past, rest-within}
 use Rattle.compaction.proofs.statistics.joined.Goals as goal

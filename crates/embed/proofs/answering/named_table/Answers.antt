@@ -1,5 +1,5 @@
-use Rattle.query.specs.QueryShape.{query_shape}
-use Rattle.query.specs.Resolved.{named}
+use Rattle.table.specs.QueryShape.{query_shape}
+use Rattle.table.specs.Resolved.{named}
 use Rattle.reports.proofs.QueryLemmas.{unanswered_of}
 use Rattle.embed.proofs.answering.named_table.Goals as goal
 

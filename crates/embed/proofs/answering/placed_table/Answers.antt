@@ -1,8 +1,8 @@
 use Rattle.std.proofs.Common.{◌∙◌, ap, map, string_bytes}
-use Rattle.answers.specs.Answers.{group_shape}
+use Rattle.table.specs.Answers.{group_shape}
 use Rattle.embed.specs.Answer.{of_batch}
-use Rattle.query.specs.QueryShape.{query_shape}
-use Rattle.query.specs.Resolved.{named}
+use Rattle.table.specs.QueryShape.{query_shape}
+use Rattle.table.specs.Resolved.{named}
 use Rattle.reports.specs.GroupLines.{column_names}
 use Rattle.results.specs.Result.{result_batch}
 use Rattle.results.specs.Types.{result_types}

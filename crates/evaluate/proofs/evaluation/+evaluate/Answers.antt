@@ -1,6 +1,6 @@
 use Rattle.std.proofs.Common.{◌≡◌, ◌≢◌, ◌∙◌, ap, sym, subst, length, map, is_ok, true, arith}
 use Rattle.query.specs.Checked.{checked}
-use Rattle.query.specs.Columns.{sort_at}
+use Rattle.query.specs.CalledColumns.{sort_at}
 use Rattle.query.specs.Sorts.{sort_of_one, sort_of_two}
 use Rattle.query.specs.Tree.{op, tree_of, trees}
 use Rattle.query.proofs.TreeLemmas.{tree_of-Op}

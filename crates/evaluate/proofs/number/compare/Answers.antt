@@ -2,7 +2,7 @@ use Rattle.std.proofs.Common.{◌≡◌, ◌∙◌, ap, subst, sym, true}
 use Rattle.std.specs.Int.{w128}
 use Rattle.std.proofs.lemmas.Int.{to_z-of_z}
 use Rattle.arrays.specs.Shown.{shown}
-use Rattle.types.specs.Kind as kind
+use Rattle.arrays.specs.Kind as kind
 use Rattle.kernels.specs.Beside.{has_number, number_beside}
 use Rattle.kernels.specs.Order.{compared}
 use Rattle.evaluate.specs.Making.{is_of_operands, stop_of}

@@ -1,12 +1,12 @@
 use Rattle.std.proofs.Common.{◌≡◌, ◌∙◌, IfErr, IfOk, false, length, replicate, subst}
 use Rattle.std.specs.Int.{w128}
 use Rattle.std.proofs.lemmas.Int.{to_z-of_z}
-use Rattle.types.specs.Kind as kind
+use Rattle.arrays.specs.Kind as kind
 use Rattle.arrays.specs.Item.{int}
 use Rattle.arrays.specs.Shown.{shown}
 use Rattle.arrays.specs.Slot.{item_at}
 use Rattle.query.specs.Sorts.{sort_of_kind, sort_of_two}
-use Rattle.types.specs.Kind.{int64}
+use Rattle.arrays.specs.Kind.{int64}
 use Rattle.query.specs.declared.sort.Sort.TheVariants.{Literal}
 use Rattle.evaluate.specs.Making.{AreMade, StopsMaking, in_order}
 use Rattle.evaluate.specs.Value.{of_two}

@@ -1,5 +1,5 @@
 use Rattle.std.proofs.Common.{◌∙◌, sym, ap, replicate}
-use Rattle.types.specs.Kind as kind
+use Rattle.arrays.specs.Kind as kind
 use Rattle.arrays.specs.Item.{boolean}
 use Rattle.arrays.specs.Shown.{shown}
 use Rattle.kernels.specs.Order.{meets}

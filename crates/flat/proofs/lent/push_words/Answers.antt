@@ -1,6 +1,6 @@
 use Rattle.std.proofs.Common.{[], subst, true}
-use Rattle.types.specs.Kind.{Kind}
-use Rattle.types.proofs.ShapeLemmas.{kind_of-Utf8}
+use Rattle.arrays.specs.Kind.{Kind}
+use Rattle.arrays.proofs.ShapeLemmas.{kind_of-Utf8}
 use Rattle.flat.specs.Lent.{IsNodeOver}
 use Rattle.flat.proofs.LentLemmas.{text_pushed}
 use Rattle.flat.proofs.lent.push_words.Goals as goal

@@ -1,5 +1,5 @@
 use Rattle.std.proofs.Common.{take}
-use Rattle.group.specs.Columns.{AreJoined}
+use Rattle.group.specs.StatsOfColumns.{AreJoined}
 use Rattle.group.proofs.columns.joined_all.Given as goal
 
 abbrev pub invariant-loop-k : goal.invariant-loop-k

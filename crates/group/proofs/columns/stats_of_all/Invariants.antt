@@ -1,5 +1,5 @@
 use Rattle.std.proofs.Common.{take}
-use Rattle.group.specs.Columns.{AreTheirs}
+use Rattle.group.specs.StatsOfColumns.{AreTheirs}
 use Rattle.group.proofs.columns.stats_of_all.Given as goal
 
 abbrev pub invariant-loop-column : goal.invariant-loop-column

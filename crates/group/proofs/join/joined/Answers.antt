@@ -1,5 +1,5 @@
 use Rattle.std.proofs.Common.{refl}
-use Rattle.group.proofs.JoinLemmas.{AreStats-append}
+use Rattle.group.proofs.JoinedStats.{AreStats-append}
 use Rattle.group.proofs.join.joined.Goals as goal
 
 pub returns : goal.returns

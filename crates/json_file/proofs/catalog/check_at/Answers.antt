@@ -1,5 +1,5 @@
 use Rattle.std.proofs.Common.{◌≡◌, false, drop, Some, refl, sym, subst, rules}
-use Rattle.json.specs.Lex.{lex, between, begins_colon}
+use Rattle.json_scan.specs.Lex.{lex, between, begins_colon}
 use Rattle.json_scan.specs.Spelling.{SpellsAt}
 use Rattle.json_stream.specs.Column.{StandsOn}
 use Rattle.json_stream.specs.declared.column.Stretch.{Stretch}

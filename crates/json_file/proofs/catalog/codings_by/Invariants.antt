@@ -1,5 +1,5 @@
 use Rattle.std.proofs.Common.{List, map, option_map}
-use Rattle.serde_json.specs.Data.{Data, no_items}
+use Rattle.json_read.specs.Data.{Data, no_items}
 use Rattle.json_read.specs.CatalogParts.{AreCodings, coding_of}
 use Rattle.json_read.specs.EncodingParts.{parts_of}
 use Rattle.json_scan.specs.Spelling.{before}

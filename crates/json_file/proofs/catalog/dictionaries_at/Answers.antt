@@ -1,5 +1,5 @@
 use Rattle.std.proofs.Common.{Some, refl, sym, subst}
-use Rattle.serde_json.specs.Data.{array, no_items}
+use Rattle.json_read.specs.Data.{array, no_items}
 use Rattle.json_scan.specs.Spelling.{before}
 use Rattle.json_file.specs.Dictionary.{AreEntries}
 use Rattle.json_file.proofs.catalog.dictionaries_at.Goals as goal

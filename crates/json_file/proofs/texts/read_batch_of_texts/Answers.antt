@@ -1,5 +1,5 @@
 use Rattle.std.proofs.Common.{◌≡◌, length, refl, rules}
-use Rattle.serde_json.specs.Data.{object}
+use Rattle.json_read.specs.Data.{object}
 use Rattle.json_file.proofs.TextLemmas.{texts_held}
 use Rattle.json_file.proofs.texts.read_batch_of_texts.Goals as goal
 

@@ -1,4 +1,4 @@
-use Rattle.serde_json.specs.Data.{array, no_items}
+use Rattle.json_read.specs.Data.{array, no_items}
 use Rattle.json_scan.specs.Spelling.{before}
 use Rattle.json_file.proofs.TextLemmas.{column_alone}
 use Rattle.json_file.proofs.texts.read_column_of_texts.Goals as goal

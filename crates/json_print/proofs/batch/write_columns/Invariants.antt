@@ -1,7 +1,7 @@
 use Rattle.std.proofs.Common.{◌≡◌, ◌++◌, drop}
 use Rattle.arrays.specs.Shape.{fields_of}
 use Rattle.json.specs.Tree.{items_tokens}
-use Rattle.serde_json.specs.Written.{items_outline}
+use Rattle.json_base.specs.Written.{items_outline}
 use Rattle.json_print.specs.BatchData.{columns_data}
 use Rattle.json_base.specs.JsonTable.{items_of}
 use Rattle.json_print.proofs.batch.write_columns.Given as goal

@@ -1,7 +1,7 @@
 use Rattle.std.proofs.Common.{◌≡◌, ◌++◌, drop}
 use Rattle.arrays.specs.Shape.{fields_of}
 use Rattle.json.specs.Tree.{items_tokens}
-use Rattle.serde_json.specs.Written.{items_outline}
+use Rattle.json_base.specs.Written.{items_outline}
 use Rattle.json_print.specs.DictionaryData.{entries_data}
 use Rattle.json_print.proofs.entry.write_entries.Given as goal
 

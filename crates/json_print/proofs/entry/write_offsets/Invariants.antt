@@ -1,8 +1,8 @@
 use Rattle.std.proofs.Common.{◌≡◌, ◌++◌, drop, map}
 use Rattle.std.specs.String.{string_bytes}
-use Rattle.types.specs.declared.offset_width.OffsetWidth.TheVariants.{Narrow}
+use Rattle.arrays.specs.OffsetWidths.{Narrow}
 use Rattle.json.specs.Tree.{items_tokens}
-use Rattle.serde_json.specs.Written.{items_outline}
+use Rattle.json_base.specs.Written.{items_outline}
 use Rattle.json_print.specs.ColumnData.{offsets, offsets_data}
 use Rattle.json_print.specs.DictionaryData.{text_items}
 use Rattle.json_print.specs.Written.{tokens_of}

@@ -1,5 +1,5 @@
 use Rattle.std.proofs.Common.{◌∙◌, OnOk, sym, ap, subst}
-use Rattle.types.specs.Shape.{Shape, shape_of}
+use Rattle.arrays.specs.Shape.{Shape, shape_of}
 use Rattle.json_print.specs.SchemaData.{type_data}
 use Rattle.json_print.specs.Written.{Adds}
 use Rattle.json_print.proofs.Shapes.{shape_of-LargeUtf8, shape_of-LargeList}

@@ -1,7 +1,7 @@
 use Rattle.std.proofs.Common.{◌≡◌, ◌+◌, sum_by, arith}
 use Rattle.arrays.specs.Seen.{Seen}
 use Rattle.json.specs.Tree.{items_tokens}
-use Rattle.serde_json.specs.Written.{items_outline}
+use Rattle.json_base.specs.Written.{items_outline}
 use Rattle.json_print.specs.ColumnData.{item_length, offsets_data}
 use Rattle.arrays.specs.Lengths.{joined_items}
 use Rattle.json_print.proofs.Steps.{offsets_append, step}

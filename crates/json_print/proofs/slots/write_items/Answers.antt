@@ -1,7 +1,7 @@
 use Rattle.std.proofs.Common.{List, arith}
 use Rattle.arrays.specs.Seen.{Seen}
 use Rattle.json.specs.Tree.{items_tokens}
-use Rattle.serde_json.specs.Written.{items_outline}
+use Rattle.json_base.specs.Written.{items_outline}
 use Rattle.json_print.specs.ColumnData.{each}
 use Rattle.json_print.specs.Slots.{IsPartOf, part_data}
 use Rattle.arrays.specs.Lengths.{joined_items}

@@ -1,7 +1,7 @@
 use Rattle.std.proofs.Common.{◌≡◌, ◌<◌, length, ◌∙◌, Some, Ok, ap, sym, arith, rules}
 use Rattle.std.specs.Result.{MatchResult, IsErrAnd}
-use Rattle.serde_json.specs.View.{view, items_view}
-use Rattle.json_base.specs.JsonFault.{IsUnder}
+use Rattle.json_base.specs.View.{view, items_view}
+use Rattle.json_base.specs.FaultAt.{IsUnder}
 use Rattle.json_base.specs.declared.path.Member.TheVariants as member
 use Rattle.json_base.specs.declared.path.Step.TheVariants as step
 use Rattle.json_base.proofs.JsonTells.{tells_item_at}

@@ -1,6 +1,6 @@
 use Rattle.std.proofs.Common.{◌+◌, ◌*◌, map}
-use Rattle.serde_json.specs.Data.{depth, items_depth}
-use Rattle.serde_json.specs.View.{view, items_view}
+use Rattle.json_base.specs.Data.{depth, items_depth}
+use Rattle.json_base.specs.View.{view, items_view}
 use Rattle.json_base.specs.JsonMember.{ReadsFirst}
 use Rattle.json_query.specs.QueryExpr.{ReadsExpr, named_tree}
 use Rattle.json_query.proofs.expr.+exprs.Given as goal

@@ -1,5 +1,5 @@
 use Rattle.std.proofs.Common.{◌∙◌, sym}
-use Rattle.serde_json.proofs.Views.{items_len-items_view}
+use Rattle.json_base.proofs.Views.{items_len-items_view}
 use Rattle.json_query.proofs.ExprFaults.{expr_other_count}
 use Rattle.json_query.proofs.expr.arguments.Goals as goal
 

@@ -1,6 +1,6 @@
 use Rattle.std.proofs.Common.{map, string_bytes}
 use Rattle.query.specs.Resolved.{renamed_agg}
-use Rattle.serde_json.specs.View.{items_view}
+use Rattle.json_base.specs.View.{items_view}
 use Rattle.json_base.specs.JsonMember.{ReadsFirst}
 use Rattle.json_query.specs.QueryDocument.{ReadsAgg}
 use Rattle.json_query.proofs.lists.read_all.Given as goal

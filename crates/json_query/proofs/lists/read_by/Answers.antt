@@ -1,5 +1,5 @@
 use Rattle.std.proofs.Common.{arith}
-use Rattle.serde_json.proofs.Views.{items_len-items_view}
+use Rattle.json_base.proofs.Views.{items_len-items_view}
 use Rattle.json_query.proofs.QueryObjectFaults.{by_fifth}
 use Rattle.json_query.proofs.lists.read_by.Goals as goal
 

@@ -1,6 +1,6 @@
 use Rattle.std.proofs.Common.{◌≡◌, ◌<◌, length, Ok, arith, rules}
 use Rattle.std.specs.Result.{MatchResult, IsErrAnd}
-use Rattle.json_base.specs.JsonFault.{IsUnder}
+use Rattle.json_base.specs.FaultAt.{IsUnder}
 use Rattle.json_base.specs.declared.path.Step.TheVariants as step
 use Rattle.json_base.proofs.JsonTells.{tells_item_at}
 use Rattle.json_base.proofs.JsonItems.{each_done}

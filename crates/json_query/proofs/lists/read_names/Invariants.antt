@@ -1,5 +1,5 @@
 use Rattle.std.proofs.Common.{map, string_bytes}
-use Rattle.serde_json.specs.View.{items_view}
+use Rattle.json_base.specs.View.{items_view}
 use Rattle.json_base.specs.JsonMember.{ReadsFirst}
 use Rattle.json_query.specs.QueryDocument.{ReadsName}
 use Rattle.json_query.proofs.lists.read_names.Given as goal

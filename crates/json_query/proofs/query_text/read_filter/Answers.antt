@@ -1,5 +1,5 @@
 use Rattle.std.proofs.Common.{◌≡◌, Some, rules}
-use Rattle.serde_json.specs.View.{view}
+use Rattle.json_base.specs.View.{view}
 use Rattle.json_base.specs.JsonMember.{member_of}
 use Rattle.json_base.specs.declared.path.Member.TheVariants as member
 use Rattle.json_query.specs.QueryExpr.{named_tree}

@@ -1,6 +1,6 @@
 use Rattle.std.proofs.Common.{◌≡◌, ◌<◌, Ok, length, arith, rules}
 use Rattle.std.specs.Result.{MatchResult, IsErrAnd}
-use Rattle.json_base.specs.JsonFault.{IsUnder}
+use Rattle.json_base.specs.FaultAt.{IsUnder}
 use Rattle.json_base.specs.declared.path.Step.TheVariants as step
 use Rattle.json_read.proofs.JsonBatches.{catalog_count, columns_pushed, encoded_field_at, tells_column}
 use Rattle.json_base.proofs.JsonResults.{value_kept, error_made}

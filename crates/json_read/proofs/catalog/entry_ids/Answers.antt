@@ -5,7 +5,7 @@ use Rattle.std.proofs.lemmas.Int.{to_z-of_z}
 use Rattle.std.specs.Result.{MatchResult, IsErrAnd}
 use Rattle.json_read.specs.JsonCatalog.{HasId}
 use Rattle.json_read.specs.JsonCatalogFault.{NoId}
-use Rattle.json_base.specs.JsonFault.{IsUnder}
+use Rattle.json_base.specs.FaultAt.{IsUnder}
 use Rattle.json_base.specs.declared.path.Step.TheVariants as step
 use Rattle.json_base.proofs.JsonTells.{tells_item_at}
 use Rattle.json_base.proofs.JsonItems.{each_pushed, each_done}

@@ -1,5 +1,5 @@
 use Rattle.std.proofs.Common.{arith}
-use Rattle.serde_json.proofs.Views.{items_len-items_view}
+use Rattle.json_base.proofs.Views.{items_len-items_view}
 use Rattle.json_read.specs.CatalogParts.{AreWordsOf}
 use Rattle.json_base.proofs.JsonItems.{each_done}
 use Rattle.json_read.proofs.JsonCatalogs.{kept_none}

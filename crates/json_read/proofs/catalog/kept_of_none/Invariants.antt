@@ -1,4 +1,4 @@
-use Rattle.serde_json.specs.View.{items_view}
+use Rattle.json_base.specs.View.{items_view}
 use Rattle.json_read.specs.CatalogParts.{AreWordsOf}
 use Rattle.json_base.specs.JsonMember.{ReadsFirst}
 use Rattle.json_read.proofs.catalog.kept_of_none.Given as goal

@@ -2,8 +2,8 @@ use Rattle.std.proofs.Common.{◌≡◌, arith, length, rules}
 use Rattle.std.specs.Int.{w128}
 use Rattle.std.specs.Prelude.{FitsSigned}
 use Rattle.std.proofs.lemmas.Int.{to_z-of_z}
-use Rattle.serde_json.proofs.Views.{items_len-items_view}
-use Rattle.serde_json.specs.View.{items_view}
+use Rattle.json_base.proofs.Views.{items_len-items_view}
+use Rattle.json_base.specs.View.{items_view}
 use Rattle.json_read.specs.CatalogParts.{ids_of}
 use Rattle.json_read.specs.PlaceParts.{place_at}
 use Rattle.json_read.specs.declared.place.Place.TheVariants.{Nowhere, At, Again}

@@ -1,5 +1,5 @@
 use Rattle.std.proofs.Common.{◌≡◌, Some, None, false, arith}
-use Rattle.serde_json.proofs.Views.{items_len-items_view}
+use Rattle.json_base.proofs.Views.{items_len-items_view}
 use Rattle.json_read.specs.JsonColumn.{flagged_at}
 use Rattle.json_read.specs.SlotParts.{flags_in, values_in}
 use Rattle.json_read.proofs.JsonCodes.{null_added, tells_no_index_flag}

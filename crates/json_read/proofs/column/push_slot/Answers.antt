@@ -1,5 +1,5 @@
 use Rattle.std.proofs.Common.{◌≡◌, Some, None, true, false, arith}
-use Rattle.serde_json.proofs.Views.{items_len-items_view}
+use Rattle.json_base.proofs.Views.{items_len-items_view}
 use Rattle.json_read.specs.JsonColumn.{spelling_of, flagged_at}
 use Rattle.json_read.specs.SlotParts.{flags_in, values_in}
 use Rattle.json_base.proofs.JsonItems.{get_item_at, get_item_some}

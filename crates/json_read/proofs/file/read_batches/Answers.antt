@@ -2,7 +2,7 @@ use Rattle.std.proofs.Common.{◌≡◌, ◌∙◌, [], ◌∷◌, Ok, map, ap, 
 use Rattle.std.proofs.lemmas.List.{map-append}
 use Rattle.std.specs.Arc.{arc_value}
 use Rattle.std.specs.Result.{MatchResult, IsErrAnd}
-use Rattle.json_base.specs.JsonFault.{IsUnder}
+use Rattle.json_base.specs.FaultAt.{IsUnder}
 use Rattle.json_base.specs.declared.path.Step.TheVariants as step
 use Rattle.json_base.proofs.JsonItems.{each_done}
 use Rattle.json_read.proofs.JsonFiles.{tells_batch, batch_pushed, AreUnder-push}

@@ -1,7 +1,7 @@
 use Rattle.std.proofs.Common.{map, option_map}
 use Rattle.std.specs.Arc.{arc_value}
 use Rattle.json_read.specs.CatalogParts.{coding_of}
-use Rattle.serde_json.specs.View.{items_view}
+use Rattle.json_base.specs.View.{items_view}
 use Rattle.json_base.specs.JsonMember.{ReadsFirst}
 use Rattle.json_read.specs.JsonFile.{AreUnder}
 use Rattle.json_read.specs.JsonBatch.{ReadsBatch}

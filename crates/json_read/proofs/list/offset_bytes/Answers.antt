@@ -2,9 +2,9 @@ use Rattle.std.proofs.Common.{◌≡◌, ◌∙◌, None, Some, [], ◌∷◌, �
 use Rattle.std.specs.Int.{w128}
 use Rattle.std.specs.Prelude.{FitsSigned}
 use Rattle.std.proofs.lemmas.Int.{to_z-of_z}
-use Rattle.types.specs.OffsetWidth.{offset_type}
+use Rattle.arrays.specs.OffsetSize.{offset_type}
 use Rattle.arrays.specs.Number.{bytes_of_number}
-use Rattle.serde_json.specs.View.{view}
+use Rattle.json_base.specs.View.{view}
 use Rattle.json_read.specs.JsonList.{SpellsOffset}
 use Rattle.json_base.specs.JsonNumber.{integer_of}
 use Rattle.json_base.proofs.JsonItems.{each_pushed, each_done}

@@ -1,7 +1,7 @@
 use Rattle.std.proofs.Common.{◌≡◌, ◌∷◌, [], Ok, arith, option_map, rules}
 use Rattle.std.proofs.lemmas.List.{map-append}
 use Rattle.std.specs.Result.{MatchResult, IsErrAnd}
-use Rattle.json_base.specs.JsonFault.{IsUnder}
+use Rattle.json_base.specs.FaultAt.{IsUnder}
 use Rattle.json_base.specs.declared.path.Step.TheVariants as step
 use Rattle.json_read.specs.EncodingParts.{parts_of}
 use Rattle.json_read.specs.JsonEncoding.{HasEncoding}

@@ -1,5 +1,5 @@
 use Rattle.std.proofs.Common.{map, option_map}
-use Rattle.serde_json.specs.View.{items_view}
+use Rattle.json_base.specs.View.{items_view}
 use Rattle.arrays.specs.Shape.{fields_of}
 use Rattle.json_base.specs.JsonMember.{ReadsFirst}
 use Rattle.json_read.specs.EncodingParts.{parts_of}

@@ -1,6 +1,6 @@
 use Rattle.std.proofs.Common.{◌∙◌, refl}
 use Rattle.std.specs.Arc.{arc_value}
-use Rattle.serde_json.specs.Data.{object}
+use Rattle.json_read.specs.Data.{object}
 use Rattle.json_stream.proofs.ReadBatches.{batch_read}
 use Rattle.json_stream.proofs.batch.read_batch.Goals as goal
 

@@ -1,7 +1,7 @@
 use Rattle.std.proofs.Common.{subst}
-use Rattle.serde_json.specs.Find.{get_member}
-use Rattle.json_base.specs.JsonPath.{member_name}
-use Rattle.json_base.specs.declared.path.Member.TheVariants as member
+use Rattle.json_read.specs.Find.{get_member}
+use Rattle.json_read.specs.JsonPath.{member_name}
+use Rattle.json_read.specs.Members as member
 use Rattle.json_scan.proofs.Values.{if_ok_then}
 use Rattle.json_stream.specs.Column.{IsValues}
 use Rattle.json_stream.proofs.ColumnLemmas.{column_held}

@@ -7,7 +7,7 @@ use Rattle.kernels.specs.Beside.{fault_with, number_beside, number_fault}
 use Rattle.arrays.specs.Packed.{IsBufferOf}
 use Rattle.arrays.specs.Shown.{kept}
 use Rattle.truths.specs.Valid.{both_valid}
-use Rattle.types.proofs.RangeLemmas.{IsOfType-from_test}
+use Rattle.arrays.proofs.RangeLemmas.{IsOfType-from_test}
 use Rattle.kernels.proofs.BesideLemmas.{beside_numbers, beside_size, fault_beside, kept_beside, number_fits, reported_beside}
 use Rattle.kernels.proofs.ResultLemmas.{column_numbers, reported, reported_on, computed, AreOperands}
 use Rattle.kernels.proofs.arithmetic.computed_with.Goals as goal

@@ -1,7 +1,7 @@
 use Rattle.std.proofs.Common.{◌+◌, ◌++◌, ◌∙◌, ap, arith, is_some, not, sym, subst}
 use Rattle.std.proofs.lemmas.List.{append-nil}
-use Rattle.types.specs.Number.{IsOfType, is_of_type}
-use Rattle.types.proofs.RangeLemmas.{IsOfType-from_test}
+use Rattle.arrays.specs.Number.{IsOfType, is_of_type}
+use Rattle.arrays.proofs.RangeLemmas.{IsOfType-from_test}
 use Rattle.colbits.proofs.BitLemmas.{bits-zero}
 use Rattle.kernels.specs.Computed.{result_or_zero, result_at}
 use Rattle.kernels.proofs.CheckedLemmas.{AreOutside-more, bytes_of_results-none, present, is_of_type-result_or_zero, pushed_is, results_grown}

@@ -1,7 +1,7 @@
 use Rattle.std.proofs.Common.{◌∙◌, ap, int_lt, sym, ◌+◌}
 use Rattle.types.specs.Kind.{kind_of}
 use Rattle.types.specs.Number.{number_at}
-use Rattle.types.specs.OffsetWidth.{offset_type}
+use Rattle.types.specs.OffsetSize.{offset_type}
 use Rattle.layout.specs.Fault.{least_row}
 use Rattle.layout.proofs.OffsetLemmas.{decreasing_row-offsets}
 use Rattle.layout.proofs.contents.decreasing_row.Goals as goal

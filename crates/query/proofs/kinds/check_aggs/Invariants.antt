@@ -1,6 +1,6 @@
 use Rattle.std.proofs.Common.{◌≡◌, map, drop}
 use Rattle.types.specs.First.{first}
-use Rattle.query.specs.Fault.{agg_fault}
+use Rattle.query.specs.FirstFault.{agg_fault}
 use Rattle.query.proofs.kinds.check_aggs.Given as goal
 
 -- the first fault is that of the aggregates that are left

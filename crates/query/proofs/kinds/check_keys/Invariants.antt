@@ -1,6 +1,6 @@
 use Rattle.std.proofs.Common.{◌≡◌, map, drop}
 use Rattle.types.specs.First.{first}
-use Rattle.query.specs.Fault.{key_fault}
+use Rattle.query.specs.FirstFault.{key_fault}
 use Rattle.query.proofs.kinds.check_keys.Given as goal
 
 -- the first fault is that of the keys that are left

@@ -1,6 +1,6 @@
 use Rattle.std.proofs.Common.{◌≡◌, map, string_bytes, take}
-use Rattle.answers.specs.Answers.{group_shape}
-use Rattle.query.specs.Resolved.{named}
+use Rattle.table.specs.Answers.{group_shape}
+use Rattle.table.specs.Resolved.{named}
 use Rattle.reports.specs.GroupLines.{group_records}
 use Rattle.reports.proofs.forms.group_records.Given as goal
 

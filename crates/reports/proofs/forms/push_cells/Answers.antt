@@ -1,7 +1,7 @@
 use Rattle.std.proofs.Common.{◌∙◌, ◌≡◌, ◌++◌, ◌+◌, ◌<◌, ℕ, List, ap, arith, get_or, length, map, string_bytes, sym, take}
 use Rattle.std.proofs.lemmas.List.{get_or-map, length-map, take-map}
 use Rattle.arrays.specs.Item.{Item}
-use Rattle.group.specs.Scalars.{item_of_scalar}
+use Rattle.table.specs.Scalars.{item_of_scalar}
 use Rattle.reports.specs.GroupLines.{spell}
 use Rattle.reports.proofs.JoinLemmas.{first_more, later_more, spelled}
 use Rattle.reports.proofs.forms.push_cells.Goals as goal

@@ -1,6 +1,6 @@
 use Rattle.std.proofs.Common.{string_bytes}
-use Rattle.query.specs.QueryShape.{query_shape}
-use Rattle.query.specs.Resolved.{named}
+use Rattle.table.specs.QueryShape.{query_shape}
+use Rattle.table.specs.Resolved.{named}
 use Rattle.reports.proofs.QueryLemmas.{prints_of, unanswered_of}
 use Rattle.reports.proofs.groups.groups_text.Goals as goal
 

@@ -1,7 +1,7 @@
 use Rattle.std.proofs.Common.{◌∙◌, ap, sym}
-use Rattle.query.specs.QueryShape.{query_shape}
-use Rattle.query.specs.Fault.{fits}
-use Rattle.query.specs.Resolved.{named, resolved}
+use Rattle.table.specs.QueryShape.{query_shape}
+use Rattle.table.specs.FirstFault.{fits}
+use Rattle.table.specs.Resolved.{named, resolved}
 use Rattle.reports.proofs.QueryLemmas.{refused_under}
 use Rattle.reports.proofs.groups.placed_query.Goals as goal
 

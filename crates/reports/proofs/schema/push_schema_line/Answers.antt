@@ -1,6 +1,6 @@
 use Rattle.std.proofs.Common.{◌≡◌, ◌∙◌, ◌++◌, ap, string_bytes}
-use Rattle.types.specs.declared.data_type.Field.{out-Field}
-use Rattle.types.specs.Kind.{kind_of}
+use Rattle.arrays.specs.Field.{out-Field}
+use Rattle.arrays.specs.Kind.{kind_of}
 use Rattle.reports.specs.Fields.{schema_line}
 use Rattle.reports.proofs.ReportLemmas.{schema_line-field}
 use Rattle.reports.proofs.schema.push_schema_line.Goals as goal

@@ -4,7 +4,7 @@ use Rattle.arrays.specs.Kind.{item_kind}
 use Rattle.arrays.specs.Lengths.{inner_items, is_past, is_too_big, list_length}
 use Rattle.arrays.specs.Values.{items_of_lists}
 use Rattle.arrays.specs.Shape.{field_of, kind_of_field}
-use Rattle.types.proofs.ShapeLemmas.{kind_of_field-field_of}
+use Rattle.arrays.proofs.ShapeLemmas.{kind_of_field-field_of}
 use Rattle.select.specs.Picked.{IsPick, picked}
 use Rattle.select.proofs.ChosenLemmas.{item-is, list-kind}
 use Rattle.select.proofs.GatherLemmas.{kind_finished, lists_finished, total_finished}

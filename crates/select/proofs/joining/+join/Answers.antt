@@ -6,8 +6,8 @@ use Rattle.arrays.specs.Lengths.{joined_items, total}
 use Rattle.arrays.specs.Seen.{Seen}
 use Rattle.arrays.specs.Shape.{kind_of_field}
 use Rattle.arrays.specs.ViewType.{view_kind}
-use Rattle.types.specs.declared.data_type.Field.{out-Field}
-use Rattle.types.proofs.ShapeLemmas.{kind_of_field-field_of}
+use Rattle.arrays.specs.Field.{out-Field}
+use Rattle.arrays.proofs.ShapeLemmas.{kind_of_field-field_of}
 use Rattle.select.specs.Joined.{is_content_too_big, joined}
 use Rattle.select.proofs.JoinLemmas.{child-shown, child-too_big, lists-joined}
 use Rattle.select.proofs.ListLemmas.{full_of_all, total-lengths}

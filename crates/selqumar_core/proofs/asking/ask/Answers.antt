@@ -1,5 +1,5 @@
-use Rattle.query.specs.QueryShape.{query_shape}
-use Rattle.table.specs.History.{rows}
+use Rattle.shared.specs.QueryShape.{query_shape}
+use Rattle.shared.specs.History.{rows}
 use Rattle.selqumar_core.proofs.AskedLemmas.{refused_at_row}
 use Rattle.selqumar_core.proofs.asking.ask.Goals as goal
 

@@ -1,11 +1,11 @@
 use Rattle.std.proofs.Common.{◌≡◌, ◌⊎◌, ◌∙◌, Err, ap, subst, sym}
 use Rattle.std.specs.Prelude.{IsOk}
-use Rattle.json_query.specs.QueryDocument.{ReadsQueryText}
-use Rattle.query.specs.Fault.{fits}
-use Rattle.query.specs.QueryShape.{query_shape}
-use Rattle.query.specs.Resolved.{named, resolved}
-use Rattle.query.specs.declared.fault.QueryFault.TheVariants.{NoMemory}
-use Rattle.table.specs.History.{rows}
+use Rattle.arrow_json.specs.QueryDocument.{ReadsQueryText}
+use Rattle.shared.specs.FirstFault.{fits}
+use Rattle.shared.specs.QueryShape.{query_shape}
+use Rattle.shared.specs.Resolved.{named, resolved}
+use Rattle.shared.specs.QueryFaults.{NoMemory}
+use Rattle.shared.specs.History.{rows}
 use Rattle.selqumar_core.proofs.AskedLemmas.{refused_by_fields}
 use Rattle.selqumar_core.proofs.asking.placed.Goals as goal
 

@@ -8,9 +8,9 @@ use Rattle.arrays.specs.Batch.{Batch, batch_fault}
 use Rattle.arrays.specs.Seen.{Seen}
 use Rattle.arrays.specs.Shape.{FieldShape}
 use Rattle.arrays.specs.Typed.{IsItemOf}
-use Rattle.group.specs.declared.stats.ColumnStats.{ColumnStats}
+use Rattle.answers.specs.ColumnStats.{ColumnStats}
 use Rattle.table.specs.Cause.{batch_cause}
-use Rattle.group.specs.Columns.{AreJoined}
+use Rattle.answers.specs.StatsOfColumns.{AreJoined}
 use Rattle.compaction.specs.Under.{IsDictionary, IsUnder}
 use Rattle.table.specs.Moved.{AreMoved}
 use Rattle.table.specs.Storage.{batches_of, book_of, show}

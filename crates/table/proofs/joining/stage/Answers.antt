@@ -6,8 +6,8 @@ use Rattle.std.specs.declared.sync.Arc.{Arc}
 use Rattle.std.specs.declared.vec.Vec.{Vec}
 use Rattle.arrays.specs.Batch.{Batch, rows_of}
 use Rattle.arrays.specs.Seen.{Seen}
-use Rattle.group.specs.declared.stats.ColumnStats.{ColumnStats}
-use Rattle.compaction.specs.Groups.{AreGroups}
+use Rattle.answers.specs.ColumnStats.{ColumnStats}
+use Rattle.compaction.specs.Neighbours.{AreGroups}
 use Rattle.compaction.specs.Under.{HaveStats, IsDictionary, IsUnder, pieces_of}
 use Rattle.table.specs.Storage.{batches_of, dictionaries_in}
 use Rattle.table.specs.declared.storage.Storage.{Storage}

@@ -2,7 +2,7 @@ use Rattle.std.proofs.Common.{◌∙◌, ap, arith, map, option_map, subst}
 use Rattle.std.specs.Arc.{arc_value}
 use Rattle.std.specs.List.{AllZip}
 use Rattle.std.proofs.lemmas.List.{length-map, map_push, take_all}
-use Rattle.group.proofs.ColumnsLemmas.{all_zip-more}
+use Rattle.answers.proofs.ColumnsLemmas.{all_zip-more}
 use Rattle.compaction.specs.Under.{IsUnder}
 use Rattle.compaction.proofs.FrontLemmas.{Shared, batch-at, shared-at}
 use Rattle.table.specs.Moved.{IsMoved}

@@ -5,7 +5,7 @@ use Rattle.arrays.specs.Kind.{Kind, kind_of}
 use Rattle.arrays.specs.Nulls.{nulls}
 use Rattle.arrays.specs.Seen.{Seen}
 use Rattle.arrays.specs.Shape.{FieldShape, field_of}
-use Rattle.types.proofs.ShapeLemmas.{kind_of_field-field_of}
+use Rattle.arrays.proofs.ShapeLemmas.{kind_of_field-field_of}
 use Rattle.table.specs.Widening.{with_nulls}
 use Rattle.table.proofs.WiderLemmas.{nulls-lawful}
 use Rattle.table.proofs.widening.wider_batch.Goals as goal

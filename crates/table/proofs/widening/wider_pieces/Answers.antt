@@ -8,7 +8,7 @@ use Rattle.std.proofs.lemmas.List.{length-map, map-append}
 use Rattle.arrays.specs.Batch.{Batch}
 use Rattle.arrays.specs.Kind.{kind_of}
 use Rattle.compaction.specs.Under.{pieces_of}
-use Rattle.group.specs.declared.stats.ColumnStats.{ColumnStats}
+use Rattle.answers.specs.ColumnStats.{ColumnStats}
 use Rattle.table.specs.Widening.{AreWider}
 use Rattle.table.proofs.WiderLemmas.{at-image, pieces-all, pieces-more}
 use Rattle.table.proofs.widening.wider_pieces.Goals as goal

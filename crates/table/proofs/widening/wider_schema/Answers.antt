@@ -2,7 +2,7 @@ use Rattle.std.proofs.Common.{◌∙◌, ◌≡◌, ◌≤◌, ◌++◌, [], ◌
 use Rattle.arrays.specs.Kind.{Kind, depth, has_dict_in_list}
 use Rattle.arrays.specs.Schema.{schema_fault}
 use Rattle.arrays.specs.Shape.{FieldShape, field_of, fields_of}
-use Rattle.types.proofs.ShapeLemmas.{kind_of_field-field_of}
+use Rattle.arrays.proofs.ShapeLemmas.{kind_of_field-field_of}
 use Rattle.table.proofs.AddLemmas.{schema-wider}
 use Rattle.table.proofs.StoredLemmas.{no_fault}
 use Rattle.table.proofs.widening.wider_schema.Goals as goal

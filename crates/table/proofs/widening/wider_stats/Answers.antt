@@ -1,7 +1,7 @@
 use Rattle.std.proofs.Common.{replicate, subst}
 use Rattle.arrays.specs.Item.{null}
 use Rattle.arrays.specs.Kind.{Kind}
-use Rattle.group.specs.Summary.{AreStats}
+use Rattle.answers.specs.Summary.{AreStats}
 use Rattle.table.proofs.widening.wider_stats.Goals as goal
 
 pub returns : goal.returns

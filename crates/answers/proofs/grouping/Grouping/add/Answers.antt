@@ -3,8 +3,8 @@ use Rattle.std.specs.Prelude.{All}
 use Rattle.std.proofs.lemmas.List.{length-map}
 use Rattle.arrays.specs.Batch.{Row, row_of}
 use Rattle.query.specs.QueryShape.{query_shape}
-use Rattle.query.specs.Columns.{sort_at}
-use Rattle.query.specs.Fault.{agg_fault, key_fault}
+use Rattle.query.specs.CalledColumns.{sort_at}
+use Rattle.query.specs.FirstFault.{agg_fault, key_fault}
 use Rattle.tallies.specs.Columns.{column_of, show_column}
 use Rattle.tallies.specs.Columns.{IsColumnOf}
 use Rattle.answers.specs.Grouping.{key_tables}

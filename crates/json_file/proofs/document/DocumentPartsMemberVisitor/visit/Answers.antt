@@ -1,7 +1,7 @@
 use Rattle.std.proofs.Common.{◌≡◌, ◌≢◌, false, drop, sym, subst, rules}
-use Rattle.json.specs.Lex.{lex, between, begins_colon}
-use Rattle.json_base.specs.JsonPath.{member_name}
-use Rattle.json_base.specs.declared.path.Member.TheVariants as member
+use Rattle.json_scan.specs.Lex.{lex, between, begins_colon}
+use Rattle.json_read.specs.JsonPath.{member_name}
+use Rattle.json_read.specs.Members as member
 use Rattle.json_scan.specs.Spelling.{SpellsAt}
 use Rattle.json_file.proofs.DocumentLemmas.{batches_taken, dictionaries_taken, other_passed, schema_taken}
 use Rattle.json_file.proofs.document.DocumentPartsMemberVisitor.visit.Goals as goal

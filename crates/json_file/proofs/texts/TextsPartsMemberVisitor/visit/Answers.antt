@@ -1,7 +1,7 @@
 use Rattle.std.proofs.Common.{◌≡◌, ◌≢◌, rules}
-use Rattle.serde_json.specs.Data.{number}
-use Rattle.json_base.specs.JsonPath.{member_name}
-use Rattle.json_base.specs.declared.path.Member.TheVariants as member
+use Rattle.json_read.specs.Data.{number}
+use Rattle.json_read.specs.JsonPath.{member_name}
+use Rattle.json_read.specs.Members as member
 use Rattle.json_stream.proofs.ColumnLemmas.{counted}
 use Rattle.json_file.proofs.TextLemmas.{count_taken, texts_taken, texts_passed}
 use Rattle.json_file.proofs.texts.TextsPartsMemberVisitor.visit.Goals as goal

@@ -1,7 +1,7 @@
 use Rattle.std.proofs.Common.{refl}
 use Rattle.std.specs.Str.{bytes_eq}
 use Rattle.std.specs.String.{string_bytes}
-use Rattle.types.proofs.SchemaLemmas.{position-map}
+use Rattle.arrays.proofs.SchemaLemmas.{position-map}
 use Rattle.json_print.proofs.text_set.TextSet.place_of.Goals as goal
 
 pub returns : goal.returns

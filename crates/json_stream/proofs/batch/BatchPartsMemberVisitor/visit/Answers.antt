@@ -1,8 +1,8 @@
 use Rattle.std.proofs.Common.{◌≡◌, ◌≢◌, map, option_map, refl, ap, rules}
 use Rattle.arrays.specs.Shape.{fields_of}
-use Rattle.serde_json.specs.Data.{number, array, no_items}
-use Rattle.json_base.specs.JsonPath.{member_name}
-use Rattle.json_base.specs.declared.path.Member.TheVariants as member
+use Rattle.json_read.specs.Data.{number, array, no_items}
+use Rattle.json_read.specs.JsonPath.{member_name}
+use Rattle.json_read.specs.Members as member
 use Rattle.json_read.specs.CatalogParts.{coding_of}
 use Rattle.json_scan.specs.Spelling.{before}
 use Rattle.json_stream.proofs.BatchLemmas.{columns_known}

@@ -1,8 +1,8 @@
 use Rattle.std.proofs.Common.{◌≡◌, ◌≢◌, false, drop, Some, subst, rules}
-use Rattle.json.specs.Lex.{lex, between, begins_colon}
-use Rattle.serde_json.specs.Data.{number}
-use Rattle.json_base.specs.JsonPath.{member_name}
-use Rattle.json_base.specs.declared.path.Member.TheVariants as member
+use Rattle.json_scan.specs.Lex.{lex, between, begins_colon}
+use Rattle.json_read.specs.Data.{number}
+use Rattle.json_read.specs.JsonPath.{member_name}
+use Rattle.json_read.specs.Members as member
 use Rattle.json_stream.specs.Column.{IsValues}
 use Rattle.json_stream.specs.Field.{kind_in, coding_in}
 use Rattle.json_stream.proofs.ColumnLemmas.{count_taken, counted, validity_taken, data_taken, passed}

@@ -1,5 +1,5 @@
 use Rattle.std.proofs.Common.{◌≡◌, ◌<◌, ◌∷◌, ◌++◌, [], length, get_or, map, option_map, sym, ap, subst, arith, rules}
-use Rattle.types.specs.declared.data_type.Field.{out-Field}
+use Rattle.arrays.specs.Field.{out-Field}
 use Rattle.arrays.specs.Kind.{kind_of}
 use Rattle.arrays.specs.Shape.{fields_of}
 use Rattle.json_read.specs.CatalogParts.{coding_of}

@@ -1,9 +1,9 @@
 use Rattle.std.proofs.Common.{◌≡◌, ◌≢◌, Some, refl, ap, subst, rules}
-use Rattle.types.specs.declared.data_type.Field.{out-Field}
+use Rattle.arrays.specs.Field.{out-Field}
 use Rattle.arrays.specs.Kind.{kind_of}
-use Rattle.serde_json.specs.Data.{number, array}
-use Rattle.json_base.specs.JsonPath.{member_name}
-use Rattle.json_base.specs.declared.path.Member.TheVariants as member
+use Rattle.json_read.specs.Data.{number, array}
+use Rattle.json_read.specs.JsonPath.{member_name}
+use Rattle.json_read.specs.Members as member
 use Rattle.json_stream.specs.Lists.{HoldsChildMember, array_of_one}
 use Rattle.json_stream.specs.Offsets.{IsOffsets}
 use Rattle.json_stream.proofs.ColumnLemmas.{counted}

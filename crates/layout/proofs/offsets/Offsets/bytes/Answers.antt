@@ -1,6 +1,6 @@
 use Rattle.std.proofs.Common.{◌∙◌, ◌+◌, ◌*◌, ap, subst, sym}
 use Rattle.colbits.specs.Slice.{slice}
-use Rattle.types.specs.OffsetWidth.{size_of}
+use Rattle.types.specs.OffsetSize.{size_of}
 use Rattle.layout.specs.Offsets.{AreBytesOf}
 use Rattle.layout.proofs.OffsetParts.{AreBytesOf-front}
 use Rattle.layout.proofs.offsets.Offsets.bytes.Goals as goal

@@ -1,6 +1,6 @@
 use Rattle.std.proofs.Common.{◌∙◌, ◌+◌, ◌<◌, ap, arith, length, sym, zero-add}
 use Rattle.std.proofs.lemmas.Nat.{row_fits}
-use Rattle.types.specs.OffsetWidth.{size_of}
+use Rattle.types.specs.OffsetSize.{size_of}
 use Rattle.layout.specs.Offsets.{start_at, start_of}
 use Rattle.layout.proofs.OffsetParts.{length-offsets_in, start_of-in}
 use Rattle.layout.proofs.offsets.Offsets.get.Goals as goal

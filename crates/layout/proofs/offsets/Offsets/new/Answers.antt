@@ -1,5 +1,5 @@
 use Rattle.std.proofs.Common.{◌≡◌, ◌∙◌, ◌+◌, ◌*◌, ◌≤◌, ap, length, subst, sym, rules}
-use Rattle.types.specs.OffsetWidth.{most_of}
+use Rattle.types.specs.OffsetSize.{most_of}
 use Rattle.colbits.specs.Slice.{slice}
 use Rattle.layout.specs.Offsets.{offsets_in, start_of}
 use Rattle.layout.proofs.OffsetParts.{ArePart, absent-part, slice-part, start_of-short}

@@ -5,7 +5,7 @@ use Rattle.pool.specs.Texts.{is_among, is_too_full}
 use Rattle.pool.specs.Pool.{IsPool}
 use Rattle.pool.proofs.PoolLemmas.{IsPool-push, inserted}
 use Rattle.pool.proofs.text_pool.TextPool.add_new.Goals as goal
-use Rattle.types.specs.Limits.{most_slots}
+use Rattle.arrays.specs.Limits.{most_slots}
 
 pub invariant_of-self-2 : goal.invariant_of-self-2
 invariant_of-self-2 c =

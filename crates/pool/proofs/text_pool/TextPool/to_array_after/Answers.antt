@@ -1,5 +1,5 @@
 use Rattle.std.proofs.Common.{◌∙◌, ◌++◌, List, ap, inl, inr, length, sym, true≢false}
-use Rattle.types.specs.OffsetWidth.{is_full}
+use Rattle.arrays.specs.OffsetSize.{is_full}
 use Rattle.arrays.specs.Item.{Item}
 use Rattle.arrays.specs.Lengths.{is_past, text_bytes}
 use Rattle.arrays.specs.Seen.{Seen}

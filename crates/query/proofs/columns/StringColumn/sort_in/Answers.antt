@@ -1,5 +1,5 @@
 use Rattle.std.proofs.Common.{◌∙◌, ap}
-use Rattle.query.specs.Columns.{sort_named}
+use Rattle.query.specs.CalledColumns.{sort_named}
 use Rattle.query.proofs.columns.StringColumn.sort_in.Goals as goal
 
 pub returns : goal.returns

@@ -2,8 +2,8 @@ use Rattle.std.proofs.Common.{◌≡◌, ◌∙◌, ◌+◌, ◌-◌, ◌*◌, �
 use Rattle.std.specs.Int.{to_le_bytes}
 use Rattle.std.proofs.lemmas.List.{drop-drop}
 use Rattle.std.proofs.lemmas.Result.{IfOk-weaker}
-use Rattle.colbits.specs.Bit.{bit, bit_in}
-use Rattle.colbits.proofs.WordLemmas.{ArePlaces, word-last, word-more}
+use Rattle.arrays.specs.Bit.{bit, bit_in}
+use Rattle.arrays.proofs.WordLemmas.{ArePlaces, word-last, word-more}
 use Rattle.select.specs.Stored.{is_stored}
 use Rattle.select.proofs.BitsLemmas.{bits-here, bits-word, packed-bitmap}
 use Rattle.select.proofs.RestLemmas.{many_left}

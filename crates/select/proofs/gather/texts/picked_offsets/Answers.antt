@@ -1,7 +1,7 @@
 use Rattle.std.proofs.Common.{rules, ◌≡◌, ◌∙◌, ◌+◌, ◌≤◌, ◌++◌, ◌∷◌, [], List, take, ap, sym, subst, arith, pos, refl}
 use Rattle.std.specs.Option.{option_copied}
-use Rattle.types.specs.OffsetWidth.{is_full, most_of, offset_type}
-use Rattle.types.specs.Number.{bytes_of_number}
+use Rattle.arrays.specs.OffsetSize.{is_full, most_of, offset_type}
+use Rattle.arrays.specs.Number.{bytes_of_number}
 use Rattle.arrays.specs.Item.{Item}
 use Rattle.arrays.specs.Slot.{item_of_text}
 use Rattle.arrays.specs.Values.{items_of_texts}

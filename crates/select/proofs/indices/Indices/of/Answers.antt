@@ -6,7 +6,7 @@ use Rattle.select.specs.declared.fault.SelectFault.TheVariants.{IndexOutOfRange}
 use Rattle.select.proofs.NamedLemmas.{Taken-named, index_there, names-more}
 use Rattle.select.proofs.SelectionLemmas.{Taken-all, Taken-inside, Taken-outside}
 use Rattle.select.proofs.indices.Indices.of.Goals as goal
-use Rattle.types.specs.Limits.{most_slots}
+use Rattle.arrays.specs.Limits.{most_slots}
 
 pub returns-in-Some-clause-err : goal.returns-in-Some-clause-err
 returns-in-Some-clause-err g c =

@@ -11,7 +11,7 @@ use Rattle.arrays.proofs.NumberLemmas.{FitsSigned-from_type}
 use Rattle.select.proofs.NamedLemmas.{cast_fits, cast_is, index_below, row_at}
 use Rattle.select.proofs.RestLemmas.{reported_next}
 use Rattle.select.proofs.indices.IndicesRows.next.Goals as goal
-use Rattle.types.specs.Limits.{most_slots}
+use Rattle.arrays.specs.Limits.{most_slots}
 
 pub get-index-requires : goal.get-index-requires
 get-index-requires g c =

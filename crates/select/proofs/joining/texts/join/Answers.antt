@@ -1,5 +1,5 @@
 use Rattle.std.proofs.Common.{◌∙◌, ◌++◌, List, ap, sym}
-use Rattle.types.specs.OffsetWidth.{is_full}
+use Rattle.arrays.specs.OffsetSize.{is_full}
 use Rattle.arrays.specs.Item.{Item}
 use Rattle.arrays.specs.Lengths.{text_bytes}
 use Rattle.select.proofs.BigLemmas.{full_of_build}

@@ -6,7 +6,7 @@ use denote.Struct.Owning.{fields, shape, to}
 use denote.Struct.Struct.{exits_of}
 use Rattle.std.specs.Prelude.{Option, None, Some}
 use Rattle.std.proofs.Crossing.{crosses}
-use Rattle.table.proofs.SendingLemmas.{state-send}
+use Rattle.embed.proofs.SendingLemmas.{state-send}
 use Rattle.embed.specs.contracts.loaded.Loaded as table
 use Rattle.embed.specs.declared.loaded.Loaded.{Loaded}
 use Rattle.selqumar.specs.Slot.{owned_at}

@@ -6,7 +6,7 @@ use denote.Struct.Owning.{fields, shape, to}
 use denote.Struct.Struct.{exits_of}
 use Rattle.std.specs.Prelude.{Option, None, Some}
 use Rattle.std.proofs.Crossing.{crosses}
-use Rattle.table.proofs.SendingLemmas.{version-send}
+use Rattle.embed.proofs.SendingLemmas.{version-send}
 use Rattle.embed.specs.contracts.snapshot.Snapshot as snapshot
 use Rattle.embed.specs.declared.snapshot.Snapshot.{Snapshot}
 use Rattle.selqumar.specs.SnapshotSlot.{owns_snapshot}

@@ -1,8 +1,8 @@
 use Rattle.std.proofs.Common.{◌∙◌, List, ap, subst, sym}
 use Rattle.std.specs.Arc.{arc_value}
 use Rattle.arrays.specs.Shape.{FieldShape}
-use Rattle.compaction.specs.Groups.{AreApart, AreGroups}
-use Rattle.compaction.proofs.GroupLemmas.{groups-apart}
+use Rattle.table.specs.Neighbours.{AreApart, AreGroups}
+use Rattle.table.proofs.GroupLemmas.{groups-apart}
 use Rattle.shared.proofs.SeenLemmas.{known_joined, ok_with, seen_kept}
 use Rattle.shared.specs.Balance.{IsOfWorkers}
 use Rattle.shared.specs.Known.{known_of}

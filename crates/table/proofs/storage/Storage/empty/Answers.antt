@@ -3,7 +3,7 @@ use Rattle.std.specs.Arc.{arc_value}
 use Rattle.std.specs.declared.alloc.Global.{Global}
 use Rattle.std.specs.declared.vec.Vec.{Vec}
 use Rattle.arrays.specs.Shape.{FieldShape}
-use Rattle.group.specs.declared.stats.ColumnStats.{ColumnStats}
+use Rattle.answers.specs.ColumnStats.{ColumnStats}
 use Rattle.table.specs.Lawful.{dictionaries_of}
 use Rattle.compaction.specs.Statistics.{AreStatsOf}
 use Rattle.table.proofs.EmptyLemmas.{storage-empty}

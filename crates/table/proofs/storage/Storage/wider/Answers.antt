@@ -9,8 +9,8 @@ use Rattle.arrays.specs.Kind.{Kind, kind_of}
 use Rattle.arrays.specs.Seen.{Seen}
 use Rattle.arrays.specs.Shape.{FieldShape, field_of, kind_of_field}
 use Rattle.compaction.specs.Under.{pieces_of}
-use Rattle.group.specs.declared.stats.ColumnStats.{ColumnStats}
-use Rattle.types.proofs.ShapeLemmas.{kind_of_field-field_of}
+use Rattle.answers.specs.ColumnStats.{ColumnStats}
+use Rattle.arrays.proofs.ShapeLemmas.{kind_of_field-field_of}
 use Rattle.table.specs.Storage.{batches_of, dictionaries_in, pieces_in}
 use Rattle.table.specs.Widening.{AreAllWider, AreWider, no_texts, with_nulls}
 use Rattle.table.proofs.StorageLemmas.{length-pieces}

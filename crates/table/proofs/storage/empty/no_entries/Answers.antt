@@ -4,7 +4,7 @@ use Rattle.std.proofs.lemmas.List.{map-append}
 use Rattle.arrays.specs.Kind as kind
 use Rattle.arrays.specs.Kind.{kind_of, same_kind}
 use Rattle.arrays.specs.Shape.{field_of, fields_of}
-use Rattle.types.proofs.ShapeLemmas.{kind_of_field-field_of}
+use Rattle.arrays.proofs.ShapeLemmas.{kind_of_field-field_of}
 use Rattle.table.specs.Lawful.{dictionaries_of}
 use Rattle.table.proofs.EmptyLemmas.{entries-more, fields-more}
 use Rattle.table.proofs.storage.empty.no_entries.Goals as goal

@@ -1,8 +1,8 @@
 use Rattle.std.proofs.Common.{◌+◌, ◌∙◌, [], arith, subst, sym, take}
 use Rattle.arrays.specs.Shape.{field_of, fields_of}
 use Rattle.arrays.specs.Kind.{Kind}
-use Rattle.types.proofs.ShapeLemmas.{kind_of_field-field_of}
-use Rattle.group.specs.Summary.{AreStats}
+use Rattle.arrays.proofs.ShapeLemmas.{kind_of_field-field_of}
+use Rattle.answers.specs.Summary.{AreStats}
 use Rattle.table.proofs.EmptyLemmas.{fields-more, stats-more}
 use Rattle.table.proofs.storage.empty.no_stats.Goals as goal
 

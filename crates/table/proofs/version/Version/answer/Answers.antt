@@ -1,7 +1,7 @@
 use Rattle.std.proofs.Common.{map}
 use Rattle.std.proofs.lemmas.List.Elements.{All-map}
 use Rattle.std.specs.Arc.{arc_value}
-use Rattle.query.specs.QueryShape.{query_shape}
+use Rattle.answers.specs.QueryShape.{query_shape}
 use Rattle.table.specs.History.{rows}
 use Rattle.table.specs.Lawful.{IsStored}
 use Rattle.table.proofs.AnswerLemmas.{answers_table, fits_each, refuses_table, same_types}

@@ -5,8 +5,8 @@ use Rattle.std.specs.declared.alloc.Global.{Global}
 use Rattle.std.specs.declared.vec.Vec.{Vec}
 use Rattle.std.proofs.lemmas.Option.{slice_get_read}
 use Rattle.arrays.specs.Shape.{kind_of_field}
-use Rattle.group.specs.Summary.{AreStats}
-use Rattle.group.specs.declared.stats.ColumnStats.{ColumnStats}
+use Rattle.answers.specs.Summary.{AreStats}
+use Rattle.answers.specs.ColumnStats.{ColumnStats}
 use Rattle.table.specs.Contents.{Contents}
 use Rattle.table.specs.Storage.{batches_of}
 use Rattle.arrays.specs.Batch.{Table, column}

@@ -1,5 +1,5 @@
 use Rattle.std.proofs.Common.{◌∙◌, None, ap, refl}
-use Rattle.query.specs.declared.expr.Agg.TheVariants as agg
+use Rattle.evaluate.specs.Aggs as agg
 use Rattle.tallies.specs.Columns.{show_column, show_item, show_number, show_total}
 use Rattle.tallies.specs.Ends.{agg_at}
 use Rattle.tallies.specs.Tallies.{bettered, counted}

@@ -1,5 +1,5 @@
 use Rattle.std.proofs.Common.{ap, map, refl}
-use Rattle.query.specs.declared.expr.Agg.TheVariants as agg
+use Rattle.evaluate.specs.Aggs as agg
 use Rattle.tallies.specs.Columns.{show_column, show_total}
 use Rattle.tallies.proofs.MergedLemmas.{cells_few, cells_merged}
 use Rattle.tallies.proofs.column.TallyColumn.merge_sums.Goals as goal

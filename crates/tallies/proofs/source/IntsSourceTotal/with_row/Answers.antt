@@ -1,7 +1,7 @@
 use Rattle.std.proofs.Common.{◌∙◌, ◌++◌, ◌∷◌, ◌+ℤ◌, [], FitsSigned, ap, arith, refl, sym}
 use Rattle.std.specs.Int.{w128}
 use Rattle.std.proofs.lemmas.Int.{ints, to_z-of_z}
-use Rattle.query.specs.declared.expr.Agg.TheVariants.{Sum}
+use Rattle.evaluate.specs.Aggs.{Sum}
 use Rattle.tallies.specs.Columns.{show_total}
 use Rattle.tallies.specs.Tallies.{tally_of}
 use Rattle.tallies.proofs.ColumnLemmas.{number_slot}

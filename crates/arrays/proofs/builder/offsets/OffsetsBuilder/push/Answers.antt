@@ -1,5 +1,5 @@
 use Rattle.std.proofs.Common.{◌∷◌, ◌++◌, ◌+◌, ◌≤◌, [], ap, arith, length, subst, sym}
-use Rattle.types.specs.OffsetWidth.{most_of}
+use Rattle.types.specs.OffsetSize.{most_of}
 use Rattle.arrays.specs.Column.{SizedColumn}
 use Rattle.arrays.specs.Lengths.{total}
 use Rattle.arrays.proofs.LaidLemmas.{end-counted, grown, length-lengths_where}

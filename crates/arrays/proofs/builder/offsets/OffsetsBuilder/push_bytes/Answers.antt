@@ -1,5 +1,5 @@
 use Rattle.std.proofs.Common.{◌∙◌, ◌++◌, ◌-◌, ◌≤◌, ap, arith, drop, length, subst, sym, take}
-use Rattle.types.specs.OffsetWidth.{most_of}
+use Rattle.types.specs.OffsetSize.{most_of}
 use Rattle.layout.specs.Offsets.{AreBytesOf}
 use Rattle.arrays.specs.Column.{SizedColumn}
 use Rattle.arrays.specs.Growing.{AreFresh, lengths_by}

@@ -1,6 +1,6 @@
 use Rattle.std.proofs.Common.{◌≡◌, ◌∙◌, ◌+◌, ◌-◌, ◌∷◌, ◌++◌, [], Some, ap, arith, length, length-append, sym}
 use Rattle.std.proofs.lemmas.List.{append_assoc}
-use Rattle.types.specs.OffsetWidth.{most_of}
+use Rattle.types.specs.OffsetSize.{most_of}
 use Rattle.layout.specs.Offsets.{length_of, start_of}
 use Rattle.arrays.specs.Growing.{lengths_by}
 use Rattle.arrays.specs.Lengths.{total}

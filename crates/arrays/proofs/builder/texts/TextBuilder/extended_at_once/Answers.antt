@@ -1,5 +1,5 @@
 use Rattle.std.proofs.Common.{◌∙◌, ◌++◌, ◌+◌, ◌<◌, ◌≡◌, ap, arith, false, inl, length, length-append, refl, rules, sym}
-use Rattle.types.specs.OffsetWidth.{is_full}
+use Rattle.types.specs.OffsetSize.{is_full}
 use Rattle.arrays.specs.Column.{TextColumn}
 use Rattle.arrays.proofs.CutLemmas.{length-texts}
 use Rattle.arrays.proofs.ExtendedLemmas.{bytes_after, bytes_in, texts_after, total_after}

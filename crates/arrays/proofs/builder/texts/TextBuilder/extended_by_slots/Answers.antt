@@ -1,6 +1,6 @@
 use Rattle.std.proofs.Common.{◌∙◌, ◌+◌, ◌∷◌, ◌++◌, [], ap, refl, arith, length, length-append, sym}
 use Rattle.std.specs.Option.{option_copied}
-use Rattle.types.specs.OffsetWidth.{is_full}
+use Rattle.types.specs.OffsetSize.{is_full}
 use Rattle.arrays.specs.Lengths.{text_bytes}
 use Rattle.arrays.specs.Slot.{item_of_text}
 use Rattle.arrays.specs.Values.{text_items}

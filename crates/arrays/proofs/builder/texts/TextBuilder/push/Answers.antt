@@ -1,7 +1,7 @@
 use Rattle.std.proofs.Common.{◌∙◌, ◌++◌, ◌∷◌, [], None, add-zero, ap, arith, inr, length, refl, sym}
 use Rattle.std.proofs.lemmas.Result.{err_from_is_err_and}
 use Rattle.std.specs.Option.{option_copied}
-use Rattle.types.specs.OffsetWidth.{is_full}
+use Rattle.types.specs.OffsetSize.{is_full}
 use Rattle.layout.specs.Item.{null}
 use Rattle.arrays.specs.Column.{TextColumn}
 use Rattle.arrays.specs.Growing.{cut_texts}

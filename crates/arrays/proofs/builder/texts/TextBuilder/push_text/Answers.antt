@@ -1,6 +1,6 @@
 use Rattle.std.proofs.Common.{◌≡◌, ◌∙◌, ◌++◌, ◌+◌, Some, ap, arith, inl, inr, length, length-append, refl, rules, sym}
 use Rattle.std.proofs.lemmas.Result.{err_from_is_err_and}
-use Rattle.types.specs.OffsetWidth.{is_full}
+use Rattle.types.specs.OffsetSize.{is_full}
 use Rattle.layout.specs.Item.{text}
 use Rattle.arrays.specs.Column.{TextColumn}
 use Rattle.arrays.specs.Growing.{cut_texts}

@@ -9,7 +9,7 @@ use Rattle.query.specs.declared.fault.QueryFault.TheVariants.{WrongKind}
 use Rattle.query.specs.declared.sort.Sort.{Sort}
 use Rattle.query.specs.QueryShape.{QueryShape}
 use Rattle.query.specs.Checked.{checked}
-use Rattle.query.specs.Columns.{sort_at}
+use Rattle.query.specs.CalledColumns.{sort_at}
 use Rattle.query.specs.Sorts.{is_int, is_plain, is_truth}
 use Rattle.query.specs.Tree.{Tree, depth}
 
