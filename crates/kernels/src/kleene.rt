@@ -258,7 +258,7 @@ impl<'a> Truths for Not<'a> {
 
     #[inline(always)]
     fn known_lanes(&self, i: usize) -> u8x32 {
-        let _slots = self.operand.slots;
+        prove!(self.operand.slots as usize >= i + 256);
         valid_lanes(&self.operand.validity, i)
     }
 

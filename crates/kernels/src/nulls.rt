@@ -108,7 +108,7 @@ impl<'a> Truths for Invalid<'a> {
 
     #[inline(always)]
     fn value_lanes(&self, i: usize) -> u8x32 {
-        let _slots = self.slots;
+        prove!(self.slots as usize >= i + 256);
         flipped(valid_lanes(&self.validity, i))
     }
 }

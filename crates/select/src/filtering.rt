@@ -12,7 +12,7 @@ ghost use Rattle.select.specs.Selection.{filter_fault, kept};
 use crate::fault::SelectFault;
 use crate::gather::gather;
 use crate::trues::Trues;
-use arrays::{Array, BitmapBuf, Bits, Bools, Places, View, ViewType};
+use arrays::{Array, BitmapBuf, Bits, Bools, MOST_SLOTS, Places, View, ViewType};
 use std::alloc::Global;
 
 /// The items where the mask is true; where it is false or null they are dropped. A dictionary-encoded view keeps
@@ -75,8 +75,7 @@ fn keep_ones(
     ensures ok { IfOk result (λ r. r ≡ chosen view.now.kind (λ items. kept items mask.now.items) view.now) }
     ensures err { IfErr result (IsFull (is_too_big view.now.kind (kept view.now.items mask.now.items))) }
 {
-    // There are no more bits than an array may have slots.
-    let _slots = mask.slots();
+    prove!(mask.slots() as usize <= MOST_SLOTS);
     gather(alloc, view, &Trues::of(bits))
 }
 

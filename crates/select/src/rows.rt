@@ -70,7 +70,6 @@ impl Rows for FirstRows {
     }
 
     fn are_rows(&self) -> bool {
-        let _count = self.count;
         true
     }
 

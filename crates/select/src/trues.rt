@@ -53,7 +53,6 @@ impl<'a> Rows for Trues<'a> {
     }
 
     fn are_rows(&self) -> bool {
-        let _ones = self.ones;
         true
     }
 

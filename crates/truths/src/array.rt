@@ -47,7 +47,8 @@ pub trait Truths {
         requires { i + 64 ≤ count self.now }
         ensures { (j : ℕ) → j < 64 → bit_in result j ≡ known self.now (i + j) }
     {
-        let _slots = self.slots();
+        let end = self.slots() as usize;
+        prove!(i + 64 <= end);
         let mut word = 0;
         for j in 0..64 {
             if self.known(i + j) {
@@ -62,7 +63,8 @@ pub trait Truths {
         requires { i + 64 ≤ count self.now }
         ensures { (j : ℕ) → j < 64 → bit_in result j ≡ value self.now (i + j) }
     {
-        let _slots = self.slots();
+        let end = self.slots() as usize;
+        prove!(i + 64 <= end);
         let mut word = 0;
         for j in 0..64 {
             if self.value(i + j) {
@@ -77,7 +79,8 @@ pub trait Truths {
         requires { i + 256 ≤ count self.now }
         ensures { (j : ℕ) → j < 256 → bit result j ≡ known self.now (i + j) }
     {
-        let _slots = self.slots();
+        let end = self.slots() as usize;
+        prove!(i + 256 <= end);
         let (a, b) = (self.known_word(i), self.known_word(i + 64));
         let (c, d) = (self.known_word(i + 128), self.known_word(i + 192));
         lanes_of(a, b, c, d)
@@ -88,7 +91,8 @@ pub trait Truths {
         requires { i + 256 ≤ count self.now }
         ensures { (j : ℕ) → j < 256 → bit result j ≡ value self.now (i + j) }
     {
-        let _slots = self.slots();
+        let end = self.slots() as usize;
+        prove!(i + 256 <= end);
         let (a, b) = (self.value_word(i), self.value_word(i + 64));
         let (c, d) = (self.value_word(i + 128), self.value_word(i + 192));
         lanes_of(a, b, c, d)

@@ -67,7 +67,7 @@ impl<'a, 'b> Places for BothValid<'a, 'b> {
 
     #[inline(always)]
     fn lanes(&self, i: usize) -> u8x32 {
-        let _count = self.len;
+        prove!(self.len >= i + 256);
         both(valid_lanes(&self.a, i), valid_lanes(&self.b, i))
     }
 }

@@ -53,7 +53,8 @@ pub(crate) trait Pairs {
         requires { i + 64 ≤ count self.now }
         ensures { (j : ℕ) → j < 64 → bit_in result j ≡ both self.now (i + j) }
     {
-        let _slots = self.slots();
+        let end = self.slots() as usize;
+        prove!(i + 64 <= end);
         let mut word = 0;
         for j in 0..64 {
             word |= u64::from(self.holds(i + j)) << j;
@@ -66,7 +67,8 @@ pub(crate) trait Pairs {
         requires { i + 64 ≤ count self.now }
         ensures { (j : ℕ) → j < 64 → bit_in result j ≡ wants wanted (order self.now (i + j)) }
     {
-        let _slots = self.slots();
+        let end = self.slots() as usize;
+        prove!(i + 64 <= end);
         let mut word = 0;
         for j in 0..64 {
             word |= u64::from(self.meets(wanted, i + j)) << j;

@@ -93,7 +93,7 @@ impl<'a, 'b> JoinedSlots<'a, 'b> {
         requires { i + 64 ≤ self.now.slots }
         ensures { (j : ℕ) → j < 64 → bit_in result j ≡ slice_index_or (joined_valid self.now.views.now) (i + j) false }
     {
-        let _slots = self.slots;
+        prove!(self.slots as usize >= i + 64);
         let mut word = 0;
         for j in 0..64 {
             word |= u64::from(self.at(i + j)) << j;
