@@ -23,6 +23,6 @@ mod telling;
 
 pub use answering::{answer, answer_alone};
 pub use crews::{Gate, OpenGate};
-pub use group::{ColumnStats, Scalar, joined, joined_all, stats_of, stats_of_all};
+pub use group::{ColumnStats, Scalar, joined_all, stats_of_all};
 pub use groups::{Answer, Group};
 pub use query::{Agg, Expr, Op, Query, QueryFault, QueryText, query_fault_text, resolve};

@@ -32,7 +32,7 @@ use Rattle.query.specs.declared.sort.Sort.{Sort}
 use Rattle.query.specs.declared.sort.Sort.TheVariants.{Int, Literal, Text, Truth}
 use Rattle.evaluate.proofs.PlaceLemmas.{IsPlaced, IsPlacedIn, StopsOutside, binary_placed, exact_placed, sole_fault, sole_row, unary_placed}
 use Rattle.evaluate.proofs.SortLemmas.{comparable, one_int, truths}
-use Rattle.evaluate.specs.Making.{AreMade, StopsMaking, comparison_of, bounded_by, in_order, is_of_operands, stop_of, values_of}
+use Rattle.evaluate.specs.Making.{AreMade, Gives, StopsMaking, comparison_of, bounded_by, in_order, is_of_operands, stop_of, values_of}
 use Rattle.evaluate.specs.Value.{comparison, of_one, of_two}
 use Rattle.evaluate.specs.declared.stop.Stop as stop
 use Rattle.evaluate.specs.declared.stop.Stop.TheVariants as stops
@@ -79,6 +79,24 @@ given_stop P Q (Err e) r is h f = subst (λ r. IfErr r Q) (sym is) (f e h)
 pub given_rows : (P : KernelFault → Type 0) (k : Result Seen KernelFault) → IfErr k P → ((e : KernelFault) → P e → is_of_operands e ≡ false) → IfErr k (λ e. is_of_operands e ≡ false)
 given_rows P (Ok a) h f = tt
 given_rows P (Err e) h f = f e h
+
+module _ (s : Option Sort) (made : ℕ → Item) (n : ℕ) where
+  pub gives : (P : Seen → Type 0) (Q : KernelFault → Type 0) (k : Result Seen KernelFault) → IfOk k P → IfErr k Q → ((e : KernelFault) → Q e → is_of_operands e ≡ false)
+      → ((a : Seen) → P a → AreMade s made n (Column (Made a))) → ((e : KernelFault) → Q e → StopsMaking s made n (stop_of e)) → Gives s made n k
+  gives P Q (Ok a) ok err fits values stops = record { fits = tt; ok = values a ok; err = tt }
+  gives P Q (Err e) ok err fits values stops = record { fits = fits e err; ok = tt; err = stops e err }
+
+  -- No row is bad.
+  pub gives_all : (P : Seen → Type 0) (Q : KernelFault → Type 0) (k : Result Seen KernelFault) → IfOk k P → IfErr k Q → ((a : Seen) → P a → AreMade s made n (Column (Made a)))
+      → ((e : KernelFault) → Q e → e ≡ faults.NoMemory) → Gives s made n k
+  gives_all P Q k ok err values stops =
+      gives P Q k ok err (λ e fault. ap is_of_operands (stops e fault)) values (λ e fault. subst (λ f. StopsMaking s made n (stop_of f)) (sym (stops e fault)) tt)
+
+  pub given_ok : (k : Result Seen KernelFault) (r : Result Values stop.Stop) → r ≡ values_of k → Gives s made n k → IfOk r (AreMade s made n)
+  given_ok k r is given = given_values _ _ k r is given.ok (λ a made. made)
+
+  pub given_err : (k : Result Seen KernelFault) (r : Result Values stop.Stop) → r ≡ values_of k → Gives s made n k → IfErr r (StopsMaking s made n)
+  given_err k r is given = given_stop _ _ k r is given.err (λ e at. at)
 
 -- ---- one column
 
@@ -210,6 +228,39 @@ results_stop f a b e h lengths reported =
       bounded_as s k made n (stops.Bad row) is at = (at.0, ap (λ o. bounded_by o (made row)) is ∙ at.1)
       bounded_as s k made n stops.NoMemory is at = tt
 
+-- ---- what kernels give of two columns
+
+module _ (a b : Seen) (k : Result Seen KernelFault) where
+  -- What an operator gives, where it has a sort.
+  abbrev pub GivesOf : Op → Type 0
+  GivesOf o =
+      is_some (sorts.of_two o (sort_of_kind a.kind) (sort_of_kind b.kind)) ≡ true
+      → Gives (sorts.of_two o (sort_of_kind a.kind) (sort_of_kind b.kind)) (λ i. of_two o (item_at a.items i) (item_at b.items i)) (length a.items) k
+
+  module _ (lengths : length a.items ≡ length b.items) where
+    pub gives_results : (f : ℤ → ℤ → ℤ) → IfOk k (λ r. (arithmetic_fault f a b ≡ None) × (r ≡ shown a.kind (results f a.items b.items)))
+        → IfErr k (IsKernelFault (operands_fault a b) (arithmetic_fault f a b)) → is_some (sorts.arithmetic (sort_of_kind a.kind) (sort_of_kind b.kind)) ≡ true
+        → Gives (sorts.arithmetic (sort_of_kind a.kind) (sort_of_kind b.kind)) (λ i. lifted (exact f) (item_at a.items i) (item_at b.items i)) (length a.items) k
+    gives_results f ok err h =
+        gives (sorts.arithmetic (sort_of_kind a.kind) (sort_of_kind b.kind)) (λ i. lifted (exact f) (item_at a.items i) (item_at b.items i)) (length a.items) _ _ k ok err
+        (λ e. results_fit f a b e h lengths) (λ r is. results_made f a b r h lengths is.0 is.1) (λ e. results_stop f a b e h lengths)
+
+    pub gives_and : IfOk k (λ r. (truths_fault a b ≡ None) × (r ≡ shown kind.boolean (conjunction a.items b.items))) → IfErr k (IsKernelFault (truths_fault a b) (truths_fault a b)) → GivesOf op.And
+    gives_and ok err h =
+        gives_all (sorts.of_two op.And (sort_of_kind a.kind) (sort_of_kind b.kind)) (λ i. of_two op.And (item_at a.items i) (item_at b.items i)) (length a.items) _ _ k ok err
+        (λ r is. and_made a b r h is.1) (λ e. truths_stop a b e h lengths)
+
+    pub gives_or : IfOk k (λ r. (truths_fault a b ≡ None) × (r ≡ shown kind.boolean (disjunction a.items b.items))) → IfErr k (IsKernelFault (truths_fault a b) (truths_fault a b)) → GivesOf op.Or
+    gives_or ok err h =
+        gives_all (sorts.of_two op.Or (sort_of_kind a.kind) (sort_of_kind b.kind)) (λ i. of_two op.Or (item_at a.items i) (item_at b.items i)) (length a.items) _ _ k ok err
+        (λ r is. or_made a b r h is.1) (λ e. truths_stop a b e h lengths)
+
+    pub gives_comparison : (o : Op) (c : CmpOp) → comparison_of o ≡ Some c → IfOk k (λ r. (comparison_fault a b ≡ None) × (r ≡ shown kind.boolean (compared c a.items b.items)))
+        → IfErr k (IsKernelFault (comparison_fault a b) (comparison_fault a b)) → GivesOf o
+    gives_comparison o c named ok err h =
+        gives_all (sorts.of_two o (sort_of_kind a.kind) (sort_of_kind b.kind)) (λ i. of_two o (item_at a.items i) (item_at b.items i)) (length a.items) _ _ k ok err
+        (λ r is. comparison_made a b r o c named h is.1) (λ e. comparison_stops a b o c e named h lengths)
+
 -- ---- literals
 
 pub settled_kind : (t : IntType) (k : Kind) → sorts.settled t (sort_of_kind k) ≡ Some (sort_of_kind k)
@@ -264,14 +315,14 @@ beside_made first o c t v r named h is =
     }))
 
 -- Two texts.
-pub texts_made : (first : Bool) (o : Op) (c : CmpOp) (t u : List ℕ) (n : ℕ) (r : Seen) → comparison_of o ≡ Some c → is_some (in_order first (sorts.sort_of_two o) Text Text) ≡ true
-    → r ≡ shown kind.boolean (replicate n (boolean (meets c (in_order first order (text t) (text u)))))
-    → AreMade (in_order first (sorts.sort_of_two o) Text Text) (λ i. in_order first (of_two o) (text t) (text u)) n (Column (Made r))
-texts_made first o c t u n r named h is =
-    let x : Item = boolean (meets c (in_order first order (text t) (text u))) in
+pub texts_made : (o : Op) (c : CmpOp) (t u : List ℕ) (n : ℕ) (r : Seen) → comparison_of o ≡ Some c → is_some (sorts.sort_of_two o Text Text) ≡ true
+    → r ≡ shown kind.boolean (replicate n (boolean (meets c (order (text t) (text u)))))
+    → AreMade (sorts.sort_of_two o Text Text) (λ i. of_two o (text t) (text u)) n (Column (Made r))
+texts_made o c t u n r named h is =
+    let x : Item = boolean (meets c (order (text t) (text u))) in
     let placed = constant_placed x n r is in
-    truth_made (in_order first (sorts.sort_of_two o) Text Text) (λ i. in_order first (of_two o) (text t) (text u)) n r (compared_sort first o c kind.utf8 named h)
-    (record { kind = placed.kind; len = placed.len; each = λ i below. placed.each i below ∙ compared_item first o c t (text u) named })
+    truth_made (sorts.sort_of_two o Text Text) (λ i. of_two o (text t) (text u)) n r (compared_sort true o c kind.utf8 named h)
+    (record { kind = placed.kind; len = placed.len; each = λ i below. placed.each i below ∙ compared_item true o c t (text u) named })
 
 -- ---- literals and columns
 

@@ -1,5 +1,5 @@
 -- Values in the making: what operators make of their operands, and what they stop with.
-use Rattle.std.specs.Prelude.{◌≡◌, ℕ, ◌<◌, Bool, true, false, length, Option, Some, None, Result, Ok, Err, slice_index_or, ⊤}
+use Rattle.std.specs.Prelude.{◌≡◌, ℕ, ◌<◌, Bool, true, false, length, Option, Some, None, Result, Ok, Err, IfOk, IfErr, slice_index_or, ⊤}
 use Rattle.arrays.specs.Batch.{Batch}
 use Rattle.arrays.specs.Item.{Item, null}
 use Rattle.arrays.specs.Seen.{Seen}
@@ -20,7 +20,7 @@ use Rattle.evaluate.specs.Value.{bounded, value}
 use Rattle.evaluate.specs.declared.values.Operand.{Operand}
 use Rattle.evaluate.specs.declared.values.Operand.TheVariants.{Made}
 use Rattle.evaluate.specs.declared.values.Values.{Values}
-use Rattle.evaluate.specs.declared.values.Values.TheVariants.{Number, Text, Column}
+use Rattle.evaluate.specs.declared.values.Values.TheVariants.{Column}
 use Rattle.evaluate.specs.declared.stop.Stop.{Stop}
 use Rattle.evaluate.specs.declared.stop.Stop.TheVariants.{Bad, NoMemory}
 
@@ -67,12 +67,11 @@ abbrev pub values_of : Result Seen KernelFault → Result Values Stop
 values_of (Ok a) = Ok (Column (Made a))
 values_of (Err e) = Err (stop_of e)
 
--- ---- literals
-
-abbrev pub is_text_alone : Values → Bool
-is_text_alone (Number z) = false
-is_text_alone (Text s) = true
-is_text_alone (Column o) = false
+-- What a kernel gives of n rows of operands of the right types and lengths: item by item what is made of them, or a fault of the rows alone.
+pub record Gives (s : Option Sort) (made : ℕ → Item) (n : ℕ) (k : Result Seen KernelFault) : Type 0 where
+  pub fits : IfErr k (λ e. is_of_operands e ≡ false)
+  pub ok : IfOk k (λ a. AreMade s made n (Column (Made a)))
+  pub err : IfErr k (λ e. StopsMaking s made n (stop_of e))
 
 -- ---- comparisons
 

@@ -6,13 +6,13 @@ ghost use Rattle.query.specs.Sorts as sorts;
 ghost use Rattle.query.specs.Sorts.{sort_of_kind};
 ghost use Rattle.query.specs.declared.expr.Op.TheVariants as op;
 ghost use Rattle.evaluate.specs.Value.{of_one, of_two};
-ghost use Rattle.evaluate.specs.Making.{AreMade, StopsMaking, comparison_of};
+ghost use Rattle.evaluate.specs.Making.{AreMade, Gives, StopsMaking, comparison_of};
 
 use crate::made::values_of;
 use crate::stop::Stop;
 use crate::values::Values;
-use arrays::View;
-use kernels::CmpOp;
+use arrays::{Array, View};
+use kernels::{CmpOp, KernelFault};
 use query::Op;
 use std::alloc::Global;
 
@@ -30,13 +30,26 @@ pub(crate) fn of_two<'a>(
     ensures err { IfErr result (StopsMaking (sorts.of_two op (sort_of_kind a.now.kind) (sort_of_kind b.now.kind))
         (λ i. of_two op (item_at a.now.items i) (item_at b.now.items i)) (length a.now.items)) }
 {
+    values_of(computed(alloc, op, a, b))
+}
+
+/// The array of what an operator makes of two columns of one length.
+fn computed(alloc: Global, op: Op, a: &View<'_>, b: &View<'_>) -> Result<Array, KernelFault>
+    requires sorts { is_some (sorts.of_two op (sort_of_kind a.now.kind) (sort_of_kind b.now.kind)) ≡ true }
+    requires lengths { length a.now.items ≡ length b.now.items }
+    ensures { Gives (sorts.of_two op (sort_of_kind a.now.kind) (sort_of_kind b.now.kind))
+        (λ i. of_two op (item_at a.now.items i) (item_at b.now.items i)) (length a.now.items) result }
+{
     match op {
-        Op::Add => sum(alloc, a, b),
-        Op::Sub => difference(alloc, a, b),
-        Op::Mul => product(alloc, a, b),
-        Op::And => both(alloc, a, b),
-        Op::Or => either(alloc, a, b),
-        _ => compare(alloc, op, a, b),
+        Op::Add => kernels::add(alloc, a, b),
+        Op::Sub => kernels::sub(alloc, a, b),
+        Op::Mul => kernels::mul(alloc, a, b),
+        Op::And => kernels::kleene_and(alloc, a, b),
+        Op::Or => kernels::kleene_or(alloc, a, b),
+        _ => match comparison_of(op) {
+            Some(comparison) => kernels::compare(alloc, comparison, a, b),
+            None => unreachable!(),
+        },
     }
 }
 
@@ -57,79 +70,6 @@ pub(crate) fn is_null<'a>(alloc: Global, column: &View<'_>) -> Result<Values<'a>
     ensures err { IfErr result (λ e. e ≡ Stop.NoMemory) }
 {
     values_of(kernels::is_null(alloc, column))
-}
-
-/// Whether both are true.
-fn both<'a>(alloc: Global, a: &View<'_>, b: &View<'_>) -> Result<Values<'a>, Stop>
-    requires sorts { is_some (sorts.of_two op.And (sort_of_kind a.now.kind) (sort_of_kind b.now.kind)) ≡ true }
-    requires lengths { length a.now.items ≡ length b.now.items }
-    ensures ok { IfOk result (AreMade (sorts.of_two op.And (sort_of_kind a.now.kind) (sort_of_kind b.now.kind))
-        (λ i. of_two op.And (item_at a.now.items i) (item_at b.now.items i)) (length a.now.items)) }
-    ensures err { IfErr result (λ e. e ≡ Stop.NoMemory) }
-{
-    values_of(kernels::kleene_and(alloc, a, b))
-}
-
-/// Whether either is true.
-fn either<'a>(alloc: Global, a: &View<'_>, b: &View<'_>) -> Result<Values<'a>, Stop>
-    requires sorts { is_some (sorts.of_two op.Or (sort_of_kind a.now.kind) (sort_of_kind b.now.kind)) ≡ true }
-    requires lengths { length a.now.items ≡ length b.now.items }
-    ensures ok { IfOk result (AreMade (sorts.of_two op.Or (sort_of_kind a.now.kind) (sort_of_kind b.now.kind))
-        (λ i. of_two op.Or (item_at a.now.items i) (item_at b.now.items i)) (length a.now.items)) }
-    ensures err { IfErr result (λ e. e ≡ Stop.NoMemory) }
-{
-    values_of(kernels::kleene_or(alloc, a, b))
-}
-
-/// The sums.
-fn sum<'a>(alloc: Global, a: &View<'_>, b: &View<'_>) -> Result<Values<'a>, Stop>
-    requires sorts { is_some (sorts.of_two op.Add (sort_of_kind a.now.kind) (sort_of_kind b.now.kind)) ≡ true }
-    requires lengths { length a.now.items ≡ length b.now.items }
-    ensures ok { IfOk result (AreMade (sorts.of_two op.Add (sort_of_kind a.now.kind) (sort_of_kind b.now.kind))
-        (λ i. of_two op.Add (item_at a.now.items i) (item_at b.now.items i)) (length a.now.items)) }
-    ensures err { IfErr result (StopsMaking (sorts.of_two op.Add (sort_of_kind a.now.kind) (sort_of_kind b.now.kind))
-        (λ i. of_two op.Add (item_at a.now.items i) (item_at b.now.items i)) (length a.now.items)) }
-{
-    values_of(kernels::add(alloc, a, b))
-}
-
-/// The differences.
-fn difference<'a>(alloc: Global, a: &View<'_>, b: &View<'_>) -> Result<Values<'a>, Stop>
-    requires sorts { is_some (sorts.of_two op.Sub (sort_of_kind a.now.kind) (sort_of_kind b.now.kind)) ≡ true }
-    requires lengths { length a.now.items ≡ length b.now.items }
-    ensures ok { IfOk result (AreMade (sorts.of_two op.Sub (sort_of_kind a.now.kind) (sort_of_kind b.now.kind))
-        (λ i. of_two op.Sub (item_at a.now.items i) (item_at b.now.items i)) (length a.now.items)) }
-    ensures err { IfErr result (StopsMaking (sorts.of_two op.Sub (sort_of_kind a.now.kind) (sort_of_kind b.now.kind))
-        (λ i. of_two op.Sub (item_at a.now.items i) (item_at b.now.items i)) (length a.now.items)) }
-{
-    values_of(kernels::sub(alloc, a, b))
-}
-
-/// The products.
-fn product<'a>(alloc: Global, a: &View<'_>, b: &View<'_>) -> Result<Values<'a>, Stop>
-    requires sorts { is_some (sorts.of_two op.Mul (sort_of_kind a.now.kind) (sort_of_kind b.now.kind)) ≡ true }
-    requires lengths { length a.now.items ≡ length b.now.items }
-    ensures ok { IfOk result (AreMade (sorts.of_two op.Mul (sort_of_kind a.now.kind) (sort_of_kind b.now.kind))
-        (λ i. of_two op.Mul (item_at a.now.items i) (item_at b.now.items i)) (length a.now.items)) }
-    ensures err { IfErr result (StopsMaking (sorts.of_two op.Mul (sort_of_kind a.now.kind) (sort_of_kind b.now.kind))
-        (λ i. of_two op.Mul (item_at a.now.items i) (item_at b.now.items i)) (length a.now.items)) }
-{
-    values_of(kernels::mul(alloc, a, b))
-}
-
-/// Whether the items stand so to each other.
-fn compare<'a>(alloc: Global, op: Op, a: &View<'_>, b: &View<'_>) -> Result<Values<'a>, Stop>
-    requires op { is_some (comparison_of op) ≡ true }
-    requires sorts { is_some (sorts.of_two op (sort_of_kind a.now.kind) (sort_of_kind b.now.kind)) ≡ true }
-    requires lengths { length a.now.items ≡ length b.now.items }
-    ensures ok { IfOk result (AreMade (sorts.of_two op (sort_of_kind a.now.kind) (sort_of_kind b.now.kind))
-        (λ i. of_two op (item_at a.now.items i) (item_at b.now.items i)) (length a.now.items)) }
-    ensures err { IfErr result (λ e. e ≡ Stop.NoMemory) }
-{
-    let Some(comparison) = comparison_of(op) else {
-        unreachable!()
-    };
-    values_of(kernels::compare(alloc, comparison, a, b))
 }
 
 /// The comparison that an operator is.

@@ -1,13 +1,13 @@
 //! Operators over the values of their operands.
 
-ghost use Rattle.std.specs.Prelude.{◌≡◌, ◌≤◌, true, false, is_some, length, IfOk, IfErr};
+ghost use Rattle.std.specs.Prelude.{◌≡◌, ◌≤◌, true, is_some, length, IfOk, IfErr};
 ghost use Rattle.arrays.specs.Item as item;
 ghost use Rattle.arrays.specs.Slot.{item_at};
 ghost use Rattle.query.specs.Sorts as sorts;
 ghost use Rattle.query.specs.declared.sort.Sort.TheVariants as sort;
 ghost use Rattle.query.specs.Sorts.{sort_of_kind, sort_of_one, sort_of_two};
 ghost use Rattle.evaluate.specs.Value.{of_one, of_two};
-ghost use Rattle.evaluate.specs.Making.{AreMade, StopsMaking, in_order, is_text_alone};
+ghost use Rattle.evaluate.specs.Making.{AreMade, StopsMaking};
 ghost use Rattle.evaluate.specs.Slices.{AreEnough, column_of, item_in, sort_in};
 ghost use Rattle.arrays.specs.Limits.{most_slots};
 
@@ -74,58 +74,30 @@ pub(crate) fn of_two<'a>(
     ensures err { IfErr result (StopsMaking (sort_of_two op (sort_in left.entry) (sort_in right.entry)) (λ i. of_two op (item_in left.entry i) (item_in right.entry i)) len) }
 {
     match left {
-        Values::Text(text) => beside_text(alloc, op, text, right, true, len),
-        left => match right {
-            Values::Text(text) => beside_text(alloc, op, text, left, false, len),
-            right => of_columns(alloc, op, left, right, len),
-        },
+        Values::Number(number) => behind_number(alloc, op, number, right, len),
+        Values::Text(text) => behind_text(alloc, op, text, right, len),
+        Values::Column(column) => behind_column(alloc, op, &column.view(), right),
     }
 }
 
-/// What an operator makes of a text and what stands beside it, behind the text or before it.
-fn beside_text<'a>(
+/// What an operator makes of a text and what stands behind it.
+fn behind_text<'a>(
     alloc: Global,
     op: Op,
-    text: &'a str,
-    other: Values<'a>,
-    is_first: bool,
+    text: &str,
+    right: Values<'_>,
     len: usize,
 ) -> Result<Values<'a>, Stop>
     requires short { len ≤ most_slots }
-    requires sort { is_some (in_order is_first (sort_of_two op) sort.Text (sort_in other)) ≡ true }
-    requires enough { AreEnough len other }
-    ensures ok { IfOk result (AreMade (in_order is_first (sort_of_two op) sort.Text (sort_in other.entry))
-        (λ i. in_order is_first (of_two op) (item.text text.entry.now) (item_in other.entry i)) len) }
+    requires sort { is_some (sort_of_two op sort.Text (sort_in right)) ≡ true }
+    requires enough { AreEnough len right }
+    ensures ok { IfOk result (AreMade (sort_of_two op sort.Text (sort_in right.entry)) (λ i. of_two op (item.text text.now) (item_in right.entry i)) len) }
     ensures err { IfErr result (λ e. e ≡ Stop.NoMemory) }
 {
-    match other {
-        Values::Text(other) => compare_texts(alloc, op, text, other, is_first, len),
-        Values::Column(column) => compare_with_text(alloc, op, &column.view(), text, is_first),
+    match right {
+        Values::Text(right) => compare_texts(alloc, op, text, right, len),
+        Values::Column(right) => compare_with_text(alloc, op, &right.view(), text, true),
         Values::Number(_) => unreachable!(),
-    }
-}
-
-/// What an operator makes of two operands that aren't texts alone.
-fn of_columns<'a>(
-    alloc: Global,
-    op: Op,
-    left: Values<'a>,
-    right: Values<'a>,
-    len: usize,
-) -> Result<Values<'a>, Stop>
-    requires short { len ≤ most_slots }
-    requires sort { is_some (sort_of_two op (sort_in left) (sort_in right)) ≡ true }
-    requires left { AreEnough len left }
-    requires right { AreEnough len right }
-    requires left_column { is_text_alone left ≡ false }
-    requires right_column { is_text_alone right ≡ false }
-    ensures ok { IfOk result (AreMade (sort_of_two op (sort_in left.entry) (sort_in right.entry)) (λ i. of_two op (item_in left.entry i) (item_in right.entry i)) len) }
-    ensures err { IfErr result (StopsMaking (sort_of_two op (sort_in left.entry) (sort_in right.entry)) (λ i. of_two op (item_in left.entry i) (item_in right.entry i)) len) }
-{
-    match left {
-        Values::Number(number) => behind_number(alloc, op, number, right, len),
-        Values::Column(column) => behind_column(alloc, op, &column.view(), right),
-        Values::Text(_) => unreachable!(),
     }
 }
 
@@ -138,14 +110,13 @@ fn behind_column<'a>(
 ) -> Result<Values<'a>, Stop>
     requires sort { is_some (sort_of_two op (sort_of_kind column.now.kind) (sort_in right)) ≡ true }
     requires enough { AreEnough (length column.now.items) right }
-    requires right_column { is_text_alone right ≡ false }
     ensures ok { IfOk result (AreMade (sort_of_two op (sort_of_kind column.now.kind) (sort_in right.entry)) (λ i. of_two op (item_at column.now.items i) (item_in right.entry i)) (length column.now.items)) }
     ensures err { IfErr result (StopsMaking (sort_of_two op (sort_of_kind column.now.kind) (sort_in right.entry)) (λ i. of_two op (item_at column.now.items i) (item_in right.entry i)) (length column.now.items)) }
 {
     match right {
         Values::Number(number) => number::of_two(alloc, op, column, number, false),
+        Values::Text(text) => compare_with_text(alloc, op, column, text, false),
         Values::Column(right) => columns::of_two(alloc, op, column, &right.view()),
-        Values::Text(_) => unreachable!(),
     }
 }
 
@@ -160,7 +131,6 @@ fn behind_number<'a>(
     requires short { len ≤ most_slots }
     requires sort { is_some (sort_of_two op (sort.Literal number) (sort_in right)) ≡ true }
     requires enough { AreEnough len right }
-    requires right_column { is_text_alone right ≡ false }
     ensures ok { IfOk result (AreMade (sort_of_two op (sort.Literal number) (sort_in right.entry)) (λ i. of_two op (item.int number) (item_in right.entry i)) len) }
     ensures err { IfErr result (StopsMaking (sort_of_two op (sort.Literal number) (sort_in right.entry)) (λ i. of_two op (item.int number) (item_in right.entry i)) len) }
 {

@@ -21,25 +21,24 @@ use query::Op;
 use std::alloc::Global;
 use std::cmp::Ordering;
 
-/// A comparison of two texts, the first of which may stand behind the other, at each row.
+/// A comparison of two texts, at each row.
 pub(crate) fn compare_texts<'a>(
     alloc: Global,
     op: Op,
-    text: &str,
-    other: &str,
-    is_first: bool,
+    left: &str,
+    right: &str,
     len: usize,
 ) -> Result<Values<'a>, Stop>
     requires short { len ≤ most_slots }
-    requires sort { is_some (in_order is_first (sort_of_two op) sort.Text sort.Text) ≡ true }
-    ensures ok { IfOk result (AreMade (in_order is_first (sort_of_two op) sort.Text sort.Text)
-        (λ i. in_order is_first (of_two op) (item.text text.now) (item.text other.now)) len) }
+    requires sort { is_some (sort_of_two op sort.Text sort.Text) ≡ true }
+    ensures ok { IfOk result (AreMade (sort_of_two op sort.Text sort.Text)
+        (λ i. of_two op (item.text left.now) (item.text right.now)) len) }
     ensures err { IfErr result (λ e. e ≡ Stop.NoMemory) }
 {
     let Some(comparison) = comparison_of(op) else {
         unreachable!()
     };
-    let order = order_of(text, other, is_first);
+    let order = order_of(left, right, true);
     let array = repeated_truth(alloc, meets(comparison, order), len)?;
     Ok(Values::Column(Operand::Made(array)))
 }

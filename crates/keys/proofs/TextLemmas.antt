@@ -1,6 +1,6 @@
 -- Texts in a set.
-use Rattle.std.proofs.Common.{◌≡◌, ◌∙◌, ℕ, suc, ◌+◌, ◌||◌, Bool, true, false, List, [], ◌∷◌, ◌++◌, length, map, get_or, Some, refl, sym, subst, ap, arith, append_assoc, true≢false, String, if◌then◌else◌}
-use Rattle.std.specs.Prelude.{Option, None, is_some, slice_get, option_map, position}
+use Rattle.std.proofs.Common.{◌≡◌, ◌∙◌, ℕ, suc, ◌+◌, ◌≤◌, ◌||◌, Bool, true, false, List, [], ◌∷◌, ◌++◌, length, map, get_or, Some, refl, sym, subst, ap, arith, append_assoc, length-append, true≢false, String, if◌then◌else◌}
+use Rattle.std.specs.Prelude.{Option, None, Result, Ok, Err, OnOk, OnErr, is_some, slice_get, option_map, position}
 use Rattle.std.specs.Option.{ForSome}
 use Rattle.std.specs.List.{IsDistinct, list_any}
 use Rattle.std.specs.Str.{bytes_eq}
@@ -81,3 +81,14 @@ pub apart_pushed : (t : List ℕ) (xs ys new : List (List ℕ)) → new ≡ ys +
     → IsDistinct bytes_eq (xs ++ new)
 apart_pushed t xs ys new is apart none =
     subst (IsDistinct bytes_eq) (append_assoc xs ys (t ∷ []) ∙ ap (λ l. xs ++ l) (sym is)) (IsDistinct-push nat_list_eq_equiv (xs ++ ys) t apart none)
+
+-- So they do whether it was put there or not, and are at most one more.
+module _ {V E : Type 0} (t : List ℕ) (ys new : List (List ℕ)) where
+  pub apart_placed : (r : Result V E) (xs : List (List ℕ)) → OnOk r (new ≡ ys ++ t ∷ []) → OnErr r (new ≡ ys) → IsDistinct bytes_eq (xs ++ ys) → list_any (bytes_eq t) (xs ++ ys) ≡ false
+      → IsDistinct bytes_eq (xs ++ new)
+  apart_placed (Ok v) xs is same apart none = apart_pushed t xs ys new is apart none
+  apart_placed (Err e) xs is same apart none = subst (λ l. IsDistinct bytes_eq (xs ++ l)) (sym same) apart
+
+  pub few_placed : (r : Result V E) → OnOk r (new ≡ ys ++ t ∷ []) → OnErr r (new ≡ ys) → length new ≤ length ys + 1
+  few_placed (Ok v) is same = omega (arith, ap length is, length-append ys (t ∷ []))
+  few_placed (Err e) is same = omega (arith, ap length same)

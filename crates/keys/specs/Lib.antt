@@ -2,6 +2,7 @@
 pub mod Same
 pub mod Keys
 pub mod Parts
+pub mod Texts
 pub mod CodeSets
 pub mod PartSets
 pub mod Memo

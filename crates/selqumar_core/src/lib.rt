@@ -20,8 +20,7 @@ pub use asking::ask;
 pub use fault::Fault;
 pub use loads::{Gate, LoadFault, OpenGate, load_all};
 pub use shared::{
-    AddFault, Answer, ColumnStats, Entry, GatherCause, GatherFault, Gathered, Group, Naming,
-    OpenFault, OpenGate, Opening, Publish, Query, QueryFault, QueryText, Reader, Ready, Receipt,
-    Refusal, Session, SharedTable, Shown, TableState, Version, Worker, joined, open, resolve,
-    stats_of, with_table,
+    AddFault, Answer, Entry, GatherCause, GatherFault, Gathered, Group, Naming, OpenFault, Opening,
+    Publish, Query, QueryFault, QueryText, Reader, Ready, Receipt, Refusal, Session, SharedTable,
+    Shown, TableState, Version, Worker, open, resolve, with_table,
 };

@@ -34,8 +34,8 @@ mod widening;
 
 pub use add_fault::AddFault;
 pub use answers::{
-    Agg, Answer, ColumnStats, Gate, Group, OpenGate, Query, QueryFault, QueryText, Scalar, joined,
-    query_fault_text, resolve, stats_of,
+    Agg, Answer, ColumnStats, Gate, Group, OpenGate, Query, QueryFault, QueryText, Scalar,
+    query_fault_text, resolve,
 };
 pub use entry::Entry;
 pub use ready::Ready;

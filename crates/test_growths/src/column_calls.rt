@@ -6,12 +6,12 @@ use crate::run::{Due, Ran, Scene, Stop, given, run, told};
 use crate::sweep::Trial;
 use crate::tell::tell_each;
 use arrays::{Array, RawArray, View, has_dict_in_list, is_too_deep, validate};
+use group::{ColumnStats, joined, stats_of};
 use kernels::{
     CmpOp, KernelFault, add, add_number, compare, compare_number, is_null, kleene_and, kleene_not,
     kleene_or, mul, mul_number, sub, sub_from_number, sub_number,
 };
 use select::{concat, copy, filter, take};
-use selqumar_core::{ColumnStats, joined, stats_of};
 use std::alloc::Global;
 use std::test::Fail;
 

@@ -4,12 +4,13 @@ use mathlib.Core.List.{IsPrefix}
 use Rattle.arrays.specs.Batch.{row_of}
 use Rattle.keys.specs.Keys.{key_of}
 use Rattle.keys.specs.Parts.{IsWithin, key_of_parts}
+use Rattle.keys.specs.Texts.{all_texts}
 use Rattle.keys.proofs.key_set.parts_of.Given as goal
 
 -- The parts so far.
 abbrev pub invariant-loop-place : goal.invariant-loop-place
 invariant-loop-place l =
-    (key_of_parts l.texts l.parts.items ≡ key_of (take l.place-index l.columns.by.now) (row_of l.columns.batch.now.columns l.row))
+    (key_of_parts (all_texts l.texts) l.parts.items ≡ key_of (take l.place-index l.columns.by.now) (row_of l.columns.batch.now.columns l.row))
     × (length l.parts.items ≡ l.place-index)
-    × All (IsWithin (length l.texts)) l.parts.items
-    × IsPrefix l.initial.texts l.texts
+    × All (IsWithin (length (all_texts l.texts))) l.parts.items
+    × IsPrefix (all_texts l.initial.texts) (all_texts l.texts)
