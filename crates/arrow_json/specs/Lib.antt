@@ -2,7 +2,6 @@
 pub use Rattle.json_base.specs.FaultAt
 pub use Rattle.json_base.specs.JsonFaultText
 pub use Rattle.json_base.specs.JsonTable
-pub use Rattle.json_base.specs.Written
 pub use Rattle.json_base.specs.contracts.fault.JsonFault as JsonFaultContract
 pub use Rattle.json_base.specs.declared.fault.JsonFault
 pub use Rattle.json_base.specs.declared.fault.JsonFaultKind
@@ -10,7 +9,6 @@ pub use Rattle.json_base.specs.declared.fault.JsonFaultKind.TheVariants as JsonF
 pub use Rattle.json_base.specs.declared.path.Step
 pub use Rattle.json_read.specs.JsonField
 pub use Rattle.json_read.specs.JsonFile
-pub use Rattle.json_print.specs.Print
 pub use Rattle.json_print.specs.SchemaData
 pub use Rattle.json_print.specs.Text
 pub use Rattle.json_query.specs.QueryDocument

@@ -7,7 +7,7 @@
 /// What holds of reading and printing.
 pub mod laws;
 
-pub use json_base::{JsonFault, JsonFaultKind, Member, Path, Step, Value, fault_text};
+pub use json_base::{JsonFault, JsonFaultKind, Member, Path, Step, fault_text};
 pub use json_file::{read_file, read_file_from_vec};
 pub use json_print::print_file;
 pub use json_query::read_query;

@@ -4,6 +4,7 @@ use Rattle.json_scan.specs.Token.{Token}
 use Rattle.json_scan.specs.Lex.{tokens}
 use Rattle.json_scan.specs.Json.{Json, value, if_last, skip_value}
 use Rattle.json_read.specs.Read.{of_json, max_depth, read}
+use Rattle.json_read.proofs.JsonTells.{tells_no_document, tells_wants}
 
 not_skipped : (o : Option (Json × List Token)) → option_map (λ p. p.1) o ≡ None → option_and_then of_json (option_and_then (λ p. if_last p.0 p.1) o) ≡ None
 not_skipped None e = refl
@@ -21,3 +22,5 @@ pub no_end : (text : List ℕ) (t : Token) (ts : List Token) → skip_value max_
 no_end text t ts e = followed (value max_depth (tokens text)) t ts e
 
 pub ruleset no_documents = (no_value, no_end)
+
+pub ruleset document_faults = (tells_no_document, tells_wants)

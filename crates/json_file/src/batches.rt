@@ -1,6 +1,6 @@
 //! The batches of a file.
 
-ghost use Rattle.std.specs.Prelude.{◌≡◌, ◌<◌, ◌≤◌, ◌∷◌, ◌++◌, List, [], length, drop, map, option_map, IfOk, OnOk};
+ghost use Rattle.std.specs.Prelude.{◌≡◌, ◌<◌, ◌≤◌, List, length, drop, map, option_map, IfOk};
 ghost use Rattle.std.specs.Arc.{arc_value};
 ghost use Rattle.json_read.specs.Data.{Data, array, no_items};
 ghost use Rattle.json_read.specs.JsonTable.{table_of};
@@ -9,9 +9,9 @@ ghost use Rattle.json_read.specs.JsonBatch.{ReadsBatch};
 ghost use Rattle.json_scan.specs.Spelling.{SpellsAt, before};
 ghost use Rattle.json_file.specs.Batches.{AreBatches};
 
-use arrays::{NoMemory, RecordBatch, Schema};
+use arrays::{RecordBatch, Schema};
 use json_read::Coding;
-use json_scan::{ItemVisitor, Miss, Placed, read_array};
+use json_scan::{ItemVisitor, Miss, Placed, push, read_array};
 use json_stream::read_batch;
 use std::alloc::Global;
 use std::sync::Arc;
@@ -32,10 +32,7 @@ fn read_shared(
     ensures onward { IfOk result (λ r. at < r.end) }
     ensures within { IfOk result (λ r. r.end ≤ length text.now) }
 {
-    let batch = match read_batch(alloc, schema, catalog, text, at, depth) {
-        Ok(batch) => batch,
-        Err(miss) => return Err(miss),
-    };
+    let batch = read_batch(alloc, schema, catalog, text, at, depth)?;
     match Arc::new(alloc, batch.value) {
         Ok(value) => Ok(Placed {
             value,
@@ -43,13 +40,6 @@ fn read_shared(
         }),
         Err(_) => Err(Miss::NoMemory),
     }
-}
-
-/// Adds a batch at the end.
-fn push(batches: &mut Vec<Arc<RecordBatch>>, batch: Arc<RecordBatch>) -> Result<(), NoMemory>
-    ensures { OnOk result (batches.new.items ≡ batches.old.items ++ batch ∷ []) }
-{
-    batches.push(batch).map_err(|_| NoMemory)
 }
 
 /// The batches so far, under the schema.
@@ -71,14 +61,9 @@ impl ItemVisitor for Batches<'_> {
         × AreBatches (arc_value first.schema.now) (map (option_map coding_of) first.catalog.now) ds (map arc_value now.batches.items) };
 
     fn visit(&mut self, text: &str, at: usize, depth: usize) -> Result<usize, Miss> {
-        let batch = match read_shared(self.alloc, self.schema, self.catalog, text, at, depth) {
-            Ok(batch) => batch,
-            Err(miss) => return Err(miss),
-        };
-        match push(&mut self.batches, batch.value) {
-            Ok(()) => Ok(batch.end),
-            Err(NoMemory) => Err(Miss::NoMemory),
-        }
+        let batch = read_shared(self.alloc, self.schema, self.catalog, text, at, depth)?;
+        push(&mut self.batches, batch.value)?;
+        Ok(batch.end)
     }
 }
 

@@ -15,7 +15,7 @@ use crate::dictionary::{DictionaryEntry, read_entries};
 use crate::head::pass_member;
 use arrays::Words;
 use json_read::{Coding, Encoding, Place, has_some, place_of, places_of};
-use json_scan::{Container, Miss, ends_in};
+use json_scan::{Container, Miss, ends_in, push};
 use json_stream::Stretch;
 use std::alloc::Global;
 use std::collections::BTreeMap;
@@ -34,9 +34,7 @@ fn ids_of(alloc: Global, entries: &[DictionaryEntry]) -> Result<Vec<i128>, Miss>
 {
     let mut ids = Vec::new(alloc);
     for entry in entries {
-        let Ok(()) = ids.push(entry.id) else {
-            return Err(Miss::NoMemory);
-        };
+        push(&mut ids, entry.id)?;
     }
     Ok(ids)
 }
@@ -106,9 +104,7 @@ fn codings_by(
     let mut codings = Vec::new(alloc);
     for index in 0..encodings.len() {
         let coding = coding_by(dictionaries, encodings[index])?;
-        let Ok(()) = codings.push(coding) else {
-            return Err(Miss::NoMemory);
-        };
+        push(&mut codings, coding)?;
     }
     Ok(codings)
 }
@@ -166,10 +162,7 @@ fn dictionaries_at(
 {
     if has_some(encodings) {
         let entries = entries_at(alloc, text, place, depth)?;
-        return match dictionaries_of(alloc, entries) {
-            Ok(dictionaries) => Ok(dictionaries),
-            Err(miss) => Err(miss),
-        };
+        return dictionaries_of(alloc, entries);
     }
     check_at(text, place, depth)?;
     dictionaries_of(alloc, Vec::new(alloc))
@@ -187,8 +180,5 @@ pub(crate) fn read_catalog(
         × AreCodedBy found (map (option_map parts_of) encodings.now) (map (option_map coding_of) cs.items)) }
 {
     let dictionaries = dictionaries_at(alloc, encodings, text, place, depth)?;
-    match codings_by(alloc, &dictionaries, encodings) {
-        Ok(codings) => Ok(codings),
-        Err(miss) => Err(miss),
-    }
+    codings_by(alloc, &dictionaries, encodings)
 }

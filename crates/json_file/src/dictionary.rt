@@ -1,6 +1,6 @@
 //! The dictionaries of a file: the entries of its `dictionaries`.
 
-ghost use Rattle.std.specs.Prelude.{◌≡◌, ◌<◌, ◌≤◌, ◌∷◌, ◌++◌, List, [], Some, length, drop, IfOk, IfSome, OnOk};
+ghost use Rattle.std.specs.Prelude.{◌≡◌, ◌<◌, ◌≤◌, List, Some, length, drop, IfOk, IfSome};
 ghost use Rattle.std.specs.Arc.{arc_value};
 ghost use Rattle.json_read.specs.Data.{Data, array, no_items};
 ghost use Rattle.json_read.specs.JsonDictionary.{WrapsTexts};
@@ -9,9 +9,11 @@ ghost use Rattle.json_scan.specs.Spelling.{Spells, SpellsAt, before};
 ghost use Rattle.json_file.specs.Dictionary.{AreEntries, AreWords, IsEntry};
 
 use crate::texts::read_texts;
-use arrays::{INT64, NoMemory, Words};
+use arrays::{INT64, Words};
 use json_read::Member;
-use json_scan::{ItemVisitor, MemberVisitor, Miss, Placed, pass_value, read_array, read_object};
+use json_scan::{
+    ItemVisitor, MemberVisitor, Miss, Placed, pass_over, push, read_array, read_object,
+};
 use json_stream::read_whole;
 use std::alloc::Global;
 use std::sync::Arc;
@@ -51,10 +53,7 @@ fn read_words(
     ensures onward { IfOk result (λ r. at < r.end) }
     ensures within { IfOk result (λ r. r.end ≤ length text.now) }
 {
-    let texts = match read_texts(alloc, text, at, depth) {
-        Ok(texts) => texts,
-        Err(miss) => return Err(miss),
-    };
+    let texts = read_texts(alloc, text, at, depth)?;
     match Arc::new(alloc, Words::of(texts.value)) {
         Ok(value) => Ok(Placed {
             value,
@@ -84,10 +83,8 @@ fn read_or_pass(
         Err(Miss::NoMemory) => return Err(Miss::NoMemory),
         Err(Miss::Unread) => {}
     }
-    match pass_value(text.as_bytes(), at, depth) {
-        Some(end) => Ok(Placed { value: None, end }),
-        None => Err(Miss::Unread),
-    }
+    let end = pass_over(text, at, depth)?;
+    Ok(Placed { value: None, end })
 }
 
 /// What has been read of an entry.
@@ -116,10 +113,7 @@ impl MemberVisitor for EntryParts {
             self.words = words.value;
             return Ok(words.end);
         }
-        match pass_value(text.as_bytes(), at, depth) {
-            Some(end) => Ok(end),
-            None => Err(Miss::Unread),
-        }
+        pass_over(text, at, depth)
     }
 }
 
@@ -151,13 +145,6 @@ fn read_entry(
     })
 }
 
-/// Adds an entry at the end.
-fn push(entries: &mut Vec<DictionaryEntry>, entry: DictionaryEntry) -> Result<(), NoMemory>
-    ensures { OnOk result (entries.new.items ≡ entries.old.items ++ entry ∷ []) }
-{
-    entries.push(entry).map_err(|_| NoMemory)
-}
-
 /// The entries so far.
 #[derive(Drop)]
 struct Entries {
@@ -171,14 +158,9 @@ impl ItemVisitor for Entries {
     ghost holds = { λ text depth first ds now. AreEntries ds now.entries.items };
 
     fn visit(&mut self, text: &str, at: usize, depth: usize) -> Result<usize, Miss> {
-        let entry = match read_entry(self.alloc, text, at, depth) {
-            Ok(entry) => entry,
-            Err(miss) => return Err(miss),
-        };
-        match push(&mut self.entries, entry.value) {
-            Ok(()) => Ok(entry.end),
-            Err(NoMemory) => Err(Miss::NoMemory),
-        }
+        let entry = read_entry(self.alloc, text, at, depth)?;
+        push(&mut self.entries, entry.value)?;
+        Ok(entry.end)
     }
 }
 

@@ -12,7 +12,7 @@ use crate::head::{HeadPlaces, head_at, pass_member};
 use arrays::File;
 use json_read::{FileHead, Member};
 use json_scan::{
-    Container, MemberVisitor, Miss, Placed, after_space, ends_in, pass_value, read_object,
+    Container, MemberVisitor, Miss, Placed, after_space, ends_in, pass_over, read_object,
 };
 use json_stream::Stretch;
 use std::alloc::Global;
@@ -53,13 +53,11 @@ fn read_by(
     ensures within { IfOk result (λ r. r.end ≤ length text.now) }
 {
     let FileHead { schema, catalog } = head_at(alloc, text, places, depth)?;
-    match read_batches(alloc, &schema, &catalog, text, at, depth) {
-        Ok(batches) => Ok(Placed {
-            value: File::new(schema, batches.value),
-            end: batches.end,
-        }),
-        Err(miss) => Err(miss),
-    }
+    let batches = read_batches(alloc, &schema, &catalog, text, at, depth)?;
+    Ok(Placed {
+        value: File::new(schema, batches.value),
+        end: batches.end,
+    })
 }
 
 /// The same where it is known, or can be guessed, how they are read; else, or where the guess is wrong, they are passed over.
@@ -88,10 +86,8 @@ fn read_or_pass(
         Err(Miss::NoMemory) => return Err(Miss::NoMemory),
         Err(Miss::Unread) => {}
     }
-    match pass_value(text.as_bytes(), at, depth) {
-        Some(end) => Ok(Placed { value: None, end }),
-        None => Err(Miss::Unread),
-    }
+    let end = pass_over(text, at, depth)?;
+    Ok(Placed { value: None, end })
 }
 
 impl MemberVisitor for DocumentParts {
@@ -141,10 +137,7 @@ fn file_at(
     if place.start > text.len() {
         return Err(Miss::Unread);
     }
-    let read = match read_by(alloc, places, text, place.start, depth) {
-        Ok(read) => read,
-        Err(miss) => return Err(miss),
-    };
+    let read = read_by(alloc, places, text, place.start, depth)?;
     if read.end == place.end {
         Ok(read.value)
     } else {
@@ -168,10 +161,7 @@ fn file_in(parts: DocumentParts, text: &str, depth: usize) -> Result<File, Miss>
             return Ok(found.file);
         }
     }
-    match file_at(alloc, places, text, batches, depth) {
-        Ok(file) => Ok(file),
-        Err(miss) => Err(miss),
-    }
+    file_at(alloc, places, text, batches, depth)
 }
 
 /// The file of a text. Where the text is at fault, or is written in a way that isn't read here, there is none, and `json_read` tells why.
@@ -192,8 +182,5 @@ pub fn read_text(alloc: Global, text: &str) -> Result<File, Miss>
     if after_space(text.as_bytes(), end) < text.len() {
         return Err(Miss::Unread);
     }
-    match file_in(parts, text, MAX_DEPTH - 1) {
-        Ok(file) => Ok(file),
-        Err(miss) => Err(miss),
-    }
+    file_in(parts, text, MAX_DEPTH - 1)
 }

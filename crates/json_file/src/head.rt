@@ -87,13 +87,11 @@ fn value_at(alloc: Global, text: &str, place: Stretch, depth: usize) -> Result<V
     if place.start > text.len() {
         return Err(Miss::Unread);
     }
-    match read_value(alloc, text, place.start, depth) {
-        Ok(read) => if read.end == place.end && ends_in(text, read.end, Container::Object) {
-            Ok(read.value)
-        } else {
-            Err(Miss::Unread)
-        },
-        Err(miss) => Err(miss),
+    let read = read_value(alloc, text, place.start, depth)?;
+    if read.end == place.end && ends_in(text, read.end, Container::Object) {
+        Ok(read.value)
+    } else {
+        Err(Miss::Unread)
     }
 }
 
@@ -132,8 +130,6 @@ pub(crate) fn head_at(
         × HasSchema head (arc_value h.schema) × HasCatalog head (map (option_map coding_of) h.catalog.items)) }
 {
     let EncodedSchema { schema, encodings } = schema_at(alloc, text, places.schema, depth)?;
-    match read_catalog(alloc, &encodings, text, places.dictionaries, depth) {
-        Ok(catalog) => Ok(FileHead { schema, catalog }),
-        Err(miss) => Err(miss),
-    }
+    let catalog = read_catalog(alloc, &encodings, text, places.dictionaries, depth)?;
+    Ok(FileHead { schema, catalog })
 }

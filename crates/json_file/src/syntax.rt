@@ -27,7 +27,7 @@ fn is_json(alloc: Global, text: &str) -> Result<bool, NoMemory>
 }
 
 /// Refuses bytes that are no JSON.
-#[tactic(auto, using(json_base::proofs::JsonTells::document_faults))]
+#[tactic(auto, using(crate::proofs::SyntaxLemmas::document_faults))]
 pub(crate) fn check_json(alloc: Global, bytes: &[u8]) -> Result<(), JsonFault>
     ensures { IfErr result (Tells (NoDocument bytes.now)) }
 {

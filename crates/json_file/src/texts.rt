@@ -11,7 +11,7 @@ ghost use Rattle.json_file.specs.Texts.{IsBatchOfTexts, IsOnlyColumn};
 use arrays::{Array, DataType, Field};
 use json_read::Member;
 use json_scan::{
-    ItemVisitor, MemberVisitor, Miss, Placed, after_space, pass_value, read_array, read_object,
+    ItemVisitor, MemberVisitor, Miss, Placed, after_space, pass_over, read_array, read_object,
 };
 use json_stream::{read_columns, read_natural};
 use std::alloc::Global;
@@ -52,10 +52,7 @@ fn read_column_of_texts(
     ensures within { IfOk result (λ r. r.end ≤ length text.now) }
 {
     let fields = [field_of_texts(alloc)];
-    let columns = match read_columns(alloc, &fields, &[None], text, at, depth) {
-        Ok(columns) => columns,
-        Err(miss) => return Err(miss),
-    };
+    let columns = read_columns(alloc, &fields, &[None], text, at, depth)?;
     match only_column(columns.value) {
         Some(value) => Ok(Placed {
             value,
@@ -91,10 +88,7 @@ impl MemberVisitor for TextsParts {
             self.texts = Some(texts.value);
             return Ok(texts.end);
         }
-        match pass_value(text.as_bytes(), at, depth) {
-            Some(end) => Ok(end),
-            None => Err(Miss::Unread),
-        }
+        pass_over(text, at, depth)
     }
 }
 
@@ -185,14 +179,8 @@ pub(crate) fn read_texts(
     let bytes = text.as_bytes();
     let start = after_space(bytes, at);
     if bytes[start..].starts_with(b"[") {
-        match read_wrapped(alloc, text, at, depth) {
-            Ok(texts) => Ok(texts),
-            Err(miss) => Err(miss),
-        }
+        read_wrapped(alloc, text, at, depth)
     } else {
-        match read_batch_of_texts(alloc, text, at, depth) {
-            Ok(texts) => Ok(texts),
-            Err(miss) => Err(miss),
-        }
+        read_batch_of_texts(alloc, text, at, depth)
     }
 }

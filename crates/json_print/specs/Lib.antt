@@ -1,5 +1,4 @@
 -- The words of this crate's contracts.
-pub use Rattle.json.specs.Print
 pub mod Written
 pub mod SchemaData
 pub mod ColumnData

@@ -1,5 +1,6 @@
 -- What the proofs of this crate share.
 pub use Rattle.json_base.proofs.JsonItems
+pub use Rattle.json_base.proofs.JsonTells
 pub use Rattle.json_base.proofs.MemberLaws
 pub use Rattle.json_base.proofs.Views
 pub mod JsonNames

@@ -1,6 +1,6 @@
 //! Columns of indices into a dictionary.
 
-ghost use Rattle.std.specs.Prelude.{◌≡◌, ◌+◌, ◌<◌, ◌≤◌, ◌^◌, length, true, Some, IfOk, IfErr, IfSome, OnOk};
+ghost use Rattle.std.specs.Prelude.{◌≡◌, ◌+◌, ◌<◌, ◌^◌, length, true, Some, IfOk, IfErr, IfSome, OnOk};
 ghost use Rattle.std.specs.Arc.{arc_value};
 ghost use Rattle.arrays.specs.Dictionary.{is_code};
 ghost use Rattle.arrays.specs.Item.{int};
@@ -21,7 +21,7 @@ use std::alloc::Global;
 use std::sync::Arc;
 
 /// Whether an index names one of so many entries.
-fn is_entry(index: i128, entries: usize) -> bool
+fn is_entry(index: i128, entries: u32) -> bool
     ensures { result ≡ is_code entries (int index) }
 {
     0 <= index && index < entries as i128
@@ -38,7 +38,6 @@ fn push_index(
     index: usize,
 ) -> Result<(), JsonFault>
     requires short { index < 2147483647 }
-    requires few { length texts.now.items ≤ 2147483647 }
     requires within { index < length slots.now.values.now }
     requires valid { flagged_at (flags_in slots.now) index ≡ Some true }
     requires so_far { HoldsCodes ty texts.now.items (flags_in slots.now) (values_in slots.now) index builder.old }
@@ -50,7 +49,7 @@ fn push_index(
         let place = [Step::Member(Member::Data), Step::Item(index)];
         return Err(JsonFault::at(alloc, JsonFaultKind::BadNumber, &place));
     };
-    if !is_entry(number, texts.len()) {
+    if !is_entry(number, texts.slots()) {
         let past = LayoutFault::IndexPastDictionary { row: index };
         return Err(JsonFault::at(alloc, JsonFaultKind::Layout(past), &[]));
     }
@@ -71,7 +70,6 @@ fn push_code(
     index: usize,
 ) -> Result<(), JsonFault>
     requires short { index < 2147483647 }
-    requires few { length texts.now.items ≤ 2147483647 }
     requires within { index < length slots.now.values.now }
     requires flagged { IfSome slots.now.flags (λ fs. index < length fs.now) }
     requires so_far { HoldsCodes ty texts.now.items (flags_in slots.now) (values_in slots.now) index builder.old }
@@ -100,7 +98,6 @@ fn codes_of(
     texts: &View<'_>,
     slots: &Slots,
 ) -> Result<IntBuilder, JsonFault>
-    requires few { length texts.now.items ≤ 2147483647 }
     requires short { length slots.now.values.now < 2 ^ 31 }
     requires whole { IfSome slots.now.flags (λ fs. length fs.now ≡ length slots.now.values.now) }
     ensures ok { IfOk result (HoldsCodes ty texts.now.items (flags_in slots.now) (values_in slots.now)
@@ -132,7 +129,6 @@ pub(crate) fn read_codes(
 {
     let slots = read_slots(alloc, count, column)?;
     let texts = words.view();
-    let _few = texts.slots();
     let codes = codes_of(alloc, ty, &texts, &slots)?;
     let Ok(codes) = codes.finish() else {
         return Err(JsonFault::no_memory(alloc));

@@ -6,7 +6,7 @@ ghost use Rattle.json_scan.specs.Scalars.{AreIntegers};
 ghost use Rattle.json_scan.specs.Spelling.{SpellsAt, SpellsItems, before};
 
 use crate::mark::{Container, Mark, empty_end, read_mark};
-use crate::miss::Miss;
+use crate::miss::{Miss, push};
 use crate::number::read_integer;
 use crate::space::{Placed, after_space};
 use crate::word::byte_at;
@@ -91,10 +91,8 @@ impl ItemVisitor for Integers {
         let Some(read) = read_integer(text.as_bytes(), at) else {
             return Err(Miss::Unread);
         };
-        match self.values.push(read.value) {
-            Ok(()) => Ok(read.end),
-            Err(_) => Err(Miss::NoMemory),
-        }
+        push(&mut self.values, read.value)?;
+        Ok(read.end)
     }
 }
 

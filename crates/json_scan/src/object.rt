@@ -9,7 +9,7 @@ use crate::mark::{Container, Mark, empty_end, read_mark};
 use crate::miss::Miss;
 use crate::space::{Placed, after_space};
 use crate::text::read_key;
-use crate::value::pass_value;
+use crate::value::pass_over;
 use crate::word::byte_at;
 use std::alloc::Global;
 
@@ -94,9 +94,7 @@ impl MemberVisitor for MemberPlace<'_> {
     ghost holds = { λ text depth first ms now. (now.name ≡ first.name) × IsMemberAt depth text first.name.now ms now.place };
 
     fn visit(&mut self, text: &str, name: &str, at: usize, depth: usize) -> Result<usize, Miss> {
-        let Some(end) = pass_value(text.as_bytes(), at, depth) else {
-            return Err(Miss::Unread);
-        };
+        let end = pass_over(text, at, depth)?;
         if name == self.name {
             self.place = Some(at);
         }

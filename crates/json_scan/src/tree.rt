@@ -8,7 +8,7 @@ ghost use Rattle.json_scan.specs.Spelling.{Spells, SpellsAt, SpellsItems, Spells
 
 use crate::literal::{Literal, read_literal};
 use crate::mark::{Container, Mark, empty_end, read_mark};
-use crate::miss::Miss;
+use crate::miss::{Miss, push};
 use crate::number::{number_word, read_integer};
 use crate::space::{Placed, after_space};
 use crate::text::{read_key, read_text};
@@ -154,9 +154,7 @@ fn read_item_values(
     let mut at = start;
     'items: loop {
         let item = read_value(alloc, text, at, depth)?;
-        let Ok(()) = values.push(item.value) else {
-            return Err(Miss::NoMemory);
-        };
+        push(&mut values, item.value)?;
         let Some(mark) = read_mark(text.as_bytes(), item.end, Container::Array) else {
             return Err(Miss::Unread);
         };

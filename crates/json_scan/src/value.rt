@@ -1,11 +1,12 @@
 //! Values of any shape, passed over. (RFC 8259, sections 3 to 5)
 
-ghost use Rattle.std.specs.Prelude.{◌≡◌, ◌-◌, ◌+◌, ◌<◌, ◌≤◌, ℕ, List, length, drop, get_or, IfSome};
+ghost use Rattle.std.specs.Prelude.{◌≡◌, ◌-◌, ◌+◌, ◌<◌, ◌≤◌, ℕ, List, length, drop, get_or, IfOk, IfSome};
 ghost use Rattle.serde_json.specs.Data.{Data, Items, Members, no_members};
 ghost use Rattle.json_scan.specs.Spelling.{IsKey, Spells, SpellsAt, SpellsItems, SpellsMembers};
 
 use crate::literal::read_literal;
 use crate::mark::{Container, Mark, empty_end, read_mark};
+use crate::miss::Miss;
 use crate::number::pass_number;
 use crate::space::after_space;
 use crate::text::string_end;
@@ -58,6 +59,16 @@ pub fn pass_value(text: &[u8], at: usize, depth: usize) -> Option<usize>
         b'{' => pass_object(text, start, depth),
         _ => pass_word(text, start),
     }
+}
+
+/// The same of a text.
+pub fn pass_over(text: &str, at: usize, depth: usize) -> Result<usize, Miss>
+    requires { at ≤ length text.now }
+    ensures ok { IfOk result (λ end. (d : Data) × SpellsAt depth (drop at text.now) d (drop end text.now)) }
+    ensures onward { IfOk result (λ end. at < end) }
+    ensures within { IfOk result (λ end. end ≤ length text.now) }
+{
+    pass_value(text.as_bytes(), at, depth).ok_or(Miss::Unread)
 }
 
 /// The place behind the array of which the opening bracket stands here.

@@ -15,7 +15,7 @@ use crate::columns::read_columns;
 use crate::natural::read_natural;
 use arrays::{Array, Field, MOST_SLOTS, RecordBatch, Schema};
 use json_read::{Coding, Member};
-use json_scan::{MemberVisitor, Miss, Placed, pass_value, read_object};
+use json_scan::{MemberVisitor, Miss, Placed, pass_over, read_object};
 use std::alloc::Global;
 use std::sync::Arc;
 
@@ -51,10 +51,7 @@ impl MemberVisitor for BatchParts<'_> {
             self.columns = Some(columns.value);
             return Ok(columns.end);
         }
-        match pass_value(text.as_bytes(), at, depth) {
-            Some(end) => Ok(end),
-            None => Err(Miss::Unread),
-        }
+        pass_over(text, at, depth)
     }
 }
 
@@ -122,8 +119,6 @@ pub fn read_batch(
     let Some(columns) = columns else {
         return Err(Miss::Unread);
     };
-    match batch_of(schema, rows, columns) {
-        Ok(value) => Ok(Placed { value, end }),
-        Err(miss) => Err(miss),
-    }
+    let value = batch_of(schema, rows, columns)?;
+    Ok(Placed { value, end })
 }

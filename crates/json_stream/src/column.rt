@@ -17,7 +17,7 @@ use crate::validity::read_validity;
 use crate::values::read_values;
 use arrays::{Array, BitmapBuf, DataType, Field, OffsetWidth};
 use json_read::{Coding, Member};
-use json_scan::{Container, MemberVisitor, Miss, Placed, ends_in, pass_value, read_object};
+use json_scan::{Container, MemberVisitor, Miss, Placed, ends_in, pass_over, read_object};
 use std::alloc::Global;
 
 /// Where a value stands.
@@ -57,18 +57,14 @@ fn read_or_pass(
     ensures within { IfOk result (λ r. r.end ≤ length text.now) }
 {
     if validity.is_some() {
-        return match read_values(alloc, field, validity, text, at, depth) {
-            Ok(values) => Ok(Placed {
-                value: Some(values.value),
-                end: values.end,
-            }),
-            Err(miss) => Err(miss),
-        };
+        let values = read_values(alloc, field, validity, text, at, depth)?;
+        return Ok(Placed {
+            value: Some(values.value),
+            end: values.end,
+        });
     }
-    match pass_value(text.as_bytes(), at, depth) {
-        Some(end) => Ok(Placed { value: None, end }),
-        None => Err(Miss::Unread),
-    }
+    let end = pass_over(text, at, depth)?;
+    Ok(Placed { value: None, end })
 }
 
 impl MemberVisitor for ColumnParts<'_> {
@@ -105,10 +101,7 @@ impl MemberVisitor for ColumnParts<'_> {
             self.values = data.value;
             return Ok(data.end);
         }
-        match pass_value(text.as_bytes(), at, depth) {
-            Some(end) => Ok(end),
-            None => Err(Miss::Unread),
-        }
+        pass_over(text, at, depth)
     }
 }
 
@@ -179,10 +172,8 @@ fn column_of(parts: ColumnParts, text: &str, depth: usize) -> Result<Array, Miss
     if let Some(array) = values {
         return if_whole(count, &validity, array);
     }
-    match values_at(alloc, field, &validity, text, place, depth) {
-        Ok(array) => if_whole(count, &validity, array),
-        Err(miss) => Err(miss),
-    }
+    let array = values_at(alloc, field, &validity, text, place, depth)?;
+    if_whole(count, &validity, array)
 }
 
 /// The column that stands here, or after spaces, as an array of the field's type: of integers, truth values, texts, or indices into the dictionary
@@ -210,10 +201,8 @@ fn read_slotted(
         values: None,
     };
     let end = read_object(alloc, text, at, depth, &mut parts)?;
-    match column_of(parts, text, depth.saturating_sub(1)) {
-        Ok(value) => Ok(Placed { value, end }),
-        Err(miss) => Err(miss),
-    }
+    let value = column_of(parts, text, depth.saturating_sub(1))?;
+    Ok(Placed { value, end })
 }
 
 /// The same without a coding.
@@ -230,10 +219,7 @@ pub(crate) fn read_plain(
     ensures onward { IfOk result (λ r. at < r.end) }
     ensures within { IfOk result (λ r. r.end ≤ length text.now) }
 {
-    match read_slotted(alloc, field, &None, text, at, depth) {
-        Ok(read) => Ok(read),
-        Err(miss) => Err(miss),
-    }
+    read_slotted(alloc, field, &None, text, at, depth)
 }
 
 /// The column that stands here, or after spaces, as an array of the field's type. One of a dictionary isn't read.
@@ -278,8 +264,5 @@ pub fn read_column(
     if coding.is_some() {
         return read_slotted(alloc, field, coding, text, at, depth);
     }
-    match read_uncoded(alloc, field, text, at, depth) {
-        Ok(read) => Ok(read),
-        Err(miss) => Err(miss),
-    }
+    read_uncoded(alloc, field, text, at, depth)
 }

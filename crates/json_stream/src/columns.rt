@@ -1,6 +1,6 @@
 //! The columns of a batch.
 
-ghost use Rattle.std.specs.Prelude.{◌≡◌, ◌<◌, ◌≤◌, ◌∷◌, ◌++◌, List, [], length, drop, map, option_map, IfOk, OnOk};
+ghost use Rattle.std.specs.Prelude.{◌≡◌, ◌<◌, ◌≤◌, List, length, drop, map, option_map, IfOk};
 ghost use Rattle.arrays.specs.Shape.{fields_of};
 ghost use Rattle.json_read.specs.Data.{Data, array, no_items};
 ghost use Rattle.json_read.specs.CatalogParts.{coding_of};
@@ -8,17 +8,10 @@ ghost use Rattle.json_scan.specs.Spelling.{SpellsAt, before};
 ghost use Rattle.json_stream.specs.Columns.{AreReadColumns};
 
 use crate::column::read_column;
-use arrays::{Array, Field, NoMemory};
+use arrays::{Array, Field};
 use json_read::Coding;
-use json_scan::{ItemVisitor, Miss, Placed, read_array};
+use json_scan::{ItemVisitor, Miss, Placed, push, read_array};
 use std::alloc::Global;
-
-/// Adds a column at the end.
-fn push(columns: &mut Vec<Array>, column: Array) -> Result<(), NoMemory>
-    ensures { OnOk result (columns.new.items ≡ columns.old.items ++ column ∷ []) }
-{
-    columns.push(column).map_err(|_| NoMemory)
-}
 
 /// The columns so far, of the first fields.
 #[derive(Drop)]
@@ -45,14 +38,9 @@ impl ItemVisitor for Columns<'_> {
         }
         let field = &self.fields[index];
         let coding = &self.catalog[index];
-        let column = match read_column(self.alloc, field, coding, text, at, depth) {
-            Ok(column) => column,
-            Err(miss) => return Err(miss),
-        };
-        match push(&mut self.columns, column.value) {
-            Ok(()) => Ok(column.end),
-            Err(NoMemory) => Err(Miss::NoMemory),
-        }
+        let column = read_column(self.alloc, field, coding, text, at, depth)?;
+        push(&mut self.columns, column.value)?;
+        Ok(column.end)
     }
 }
 

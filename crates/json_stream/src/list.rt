@@ -23,7 +23,7 @@ use arrays::{
 };
 use json_read::Member;
 use json_scan::{
-    Container, ItemVisitor, MemberVisitor, Miss, Placed, ends_in, pass_value, read_array,
+    Container, ItemVisitor, MemberVisitor, Miss, Placed, ends_in, pass_over, read_array,
     read_object,
 };
 use std::alloc::Global;
@@ -44,9 +44,7 @@ fn find_child(text: &str, at: usize, depth: usize) -> Result<Placed<Stretch>, Mi
     ensures onward { IfOk result (λ r. at < r.end) }
     ensures within { IfOk result (λ r. r.end ≤ length text.now) }
 {
-    let Some(end) = pass_value(text.as_bytes(), at, depth) else {
-        return Err(Miss::Unread);
-    };
+    let end = pass_over(text, at, depth)?;
     if !ends_in(text, end, Container::Array) {
         return Err(Miss::Unread);
     }
@@ -71,21 +69,17 @@ fn read_or_find(
     ensures within { IfOk result (λ r. r.end ≤ length text.now) }
 {
     if let DataType::List(_) | DataType::LargeList(_) = &item.ty {
-        return match find_child(text, at, depth) {
-            Ok(found) => Ok(Placed {
-                value: Child::At(found.value),
-                end: found.end,
-            }),
-            Err(miss) => Err(miss),
-        };
+        let found = find_child(text, at, depth)?;
+        return Ok(Placed {
+            value: Child::At(found.value),
+            end: found.end,
+        });
     }
-    match read_plain(alloc, item, text, at, depth) {
-        Ok(read) => Ok(Placed {
-            value: Child::Read(read.value),
-            end: read.end,
-        }),
-        Err(miss) => Err(miss),
-    }
+    let read = read_plain(alloc, item, text, at, depth)?;
+    Ok(Placed {
+        value: Child::Read(read.value),
+        end: read.end,
+    })
 }
 
 /// The child, once it is there.
@@ -193,10 +187,7 @@ impl MemberVisitor for ListMembers<'_> {
             self.parts.child = Some(child.value);
             return Ok(child.end);
         }
-        match pass_value(text.as_bytes(), at, depth) {
-            Some(end) => Ok(end),
-            None => Err(Miss::Unread),
-        }
+        pass_over(text, at, depth)
     }
 }
 
@@ -359,11 +350,9 @@ pub(crate) fn read_list(
     };
     let slots = slots_of(width, count, validity, offsets)?;
     let child = child_array(alloc, item, child, text, depth.saturating_sub(2))?;
-    match list_array(alloc, item, slots, child) {
-        Ok(value) => Ok(Placed {
-            value,
-            end: read.end,
-        }),
-        Err(miss) => Err(miss),
-    }
+    let value = list_array(alloc, item, slots, child)?;
+    Ok(Placed {
+        value,
+        end: read.end,
+    })
 }

@@ -152,10 +152,7 @@ impl SlotBuilder for TextColumn {
 
     #[inline]
     fn push_value(&mut self, text: &str, at: usize) -> Result<usize, Miss> {
-        let read = match read_text(text, at, &mut self.buffer) {
-            Ok(read) => read,
-            Err(miss) => return Err(miss),
-        };
+        let read = read_text(text, at, &mut self.buffer)?;
         match self.builder.push(Some(read.value)) {
             Ok(()) => Ok(read.end),
             Err(BuildFault::OffsetsFull) => Err(Miss::Unread),
@@ -165,10 +162,7 @@ impl SlotBuilder for TextColumn {
 
     #[inline]
     fn push_null(&mut self) -> Result<(), NoMemory> {
-        match self.builder.push(None) {
-            Ok(()) => Ok(()),
-            Err(_) => Err(NoMemory),
-        }
+        self.builder.push(None).map_err(|_| NoMemory)
     }
 
     fn finish(self) -> Result<Array, NoMemory> {

@@ -56,22 +56,6 @@ pub(crate) fn read_validity(
             Literal::Bool(_) => Err(Miss::Unread),
         };
     }
-    read_flags(alloc, text, at, depth)
-}
-
-/// The same of an array of flags.
-fn read_flags(
-    alloc: Global,
-    text: &str,
-    at: usize,
-    depth: usize,
-) -> Result<Placed<Option<BitmapBuf>>, Miss>
-    requires { at ≤ length text.now }
-    ensures ok { IfOk result (λ r. (d : Data) × SpellsAt depth (drop at text.now) d (drop r.end text.now)
-        × IsValidity (Some d) r.value) }
-    ensures onward { IfOk result (λ r. at < r.end) }
-    ensures within { IfOk result (λ r. r.end ≤ length text.now) }
-{
     let mut flags = Flags {
         bits: BitmapBuilder::new(alloc),
     };

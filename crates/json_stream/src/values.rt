@@ -15,11 +15,11 @@ use crate::field::EncodedField;
 use crate::slots::{CodeColumn, IntColumn, SlotBuilder, TextColumn};
 use crate::validity::valid_at;
 use arrays::{
-    Array, BitmapBuf, BoolBuilder, DataType, Field, INT32, IntBuilder, IntType, MOST_SLOTS,
-    NoMemory, OffsetWidth, TextBuilder,
+    Array, BitmapBuf, BoolBuilder, DataType, Field, INT32, IntBuilder, MOST_SLOTS, NoMemory,
+    OffsetWidth, TextBuilder,
 };
 use json_read::Coding;
-use json_scan::{ItemVisitor, Miss, Placed, pass_value, read_array};
+use json_scan::{ItemVisitor, Miss, Placed, pass_over, read_array};
 use std::alloc::Global;
 
 /// Adds a slot by the value that stands here, or after spaces, and gives the place behind it. Under a null the value is passed over, whatever it
@@ -47,9 +47,7 @@ fn push_slot<B: SlotBuilder>(
         Some(false) => {}
         None => return Err(Miss::Unread),
     }
-    let Some(end) = pass_value(text.as_bytes(), at, depth) else {
-        return Err(Miss::Unread);
-    };
+    let end = pass_over(text, at, depth)?;
     match builder.push_null() {
         Ok(()) => Ok(end),
         Err(NoMemory) => Err(Miss::NoMemory),
@@ -127,48 +125,7 @@ fn flagged(validity: &Option<BitmapBuf>) -> usize
     }
 }
 
-/// The same of integers.
-fn read_numbers(
-    alloc: Global,
-    ty: IntType,
-    validity: &Option<BitmapBuf>,
-    text: &str,
-    at: usize,
-    depth: usize,
-) -> Result<Placed<Array>, Miss>
-    requires { at ≤ length text.now }
-    ensures ok { IfOk result (λ r. (ds : List Data) × SpellsAt depth (drop at text.now) (array (before ds no_items)) (drop r.end text.now)
-        × HoldsSlots (kind.int ty) None validity.now ds r.value) }
-    ensures onward { IfOk result (λ r. at < r.end) }
-    ensures within { IfOk result (λ r. r.end ≤ length text.now) }
-{
-    match IntBuilder::with_capacity(alloc, ty, flagged(validity)) {
-        Ok(builder) => read_slots(IntColumn { ty, builder }, validity, text, at, depth),
-        Err(NoMemory) => Err(Miss::NoMemory),
-    }
-}
-
-/// The same of truth values.
-fn read_truths(
-    alloc: Global,
-    validity: &Option<BitmapBuf>,
-    text: &str,
-    at: usize,
-    depth: usize,
-) -> Result<Placed<Array>, Miss>
-    requires { at ≤ length text.now }
-    ensures ok { IfOk result (λ r. (ds : List Data) × SpellsAt depth (drop at text.now) (array (before ds no_items)) (drop r.end text.now)
-        × HoldsSlots kind.boolean None validity.now ds r.value) }
-    ensures onward { IfOk result (λ r. at < r.end) }
-    ensures within { IfOk result (λ r. r.end ≤ length text.now) }
-{
-    match BoolBuilder::with_capacity(alloc, flagged(validity)) {
-        Ok(builder) => read_slots(builder, validity, text, at, depth),
-        Err(NoMemory) => Err(Miss::NoMemory),
-    }
-}
-
-/// The same of texts with offsets of this width.
+/// The array of the texts that stand here, or after spaces, with offsets of this width.
 fn read_texts(
     alloc: Global,
     width: OffsetWidth,
@@ -219,7 +176,7 @@ fn read_codes(
     read_slots(codes, validity, text, at, depth)
 }
 
-/// The same of a column that isn't encoded. Lists aren't read.
+/// The array of the values that stand here, or after spaces, of a column that isn't encoded. Lists aren't read.
 fn read_plain(
     alloc: Global,
     field: &Field,
@@ -235,8 +192,14 @@ fn read_plain(
     ensures within { IfOk result (λ r. r.end ≤ length text.now) }
 {
     match &field.ty {
-        DataType::Int(ty) => read_numbers(alloc, *ty, validity, text, at, depth),
-        DataType::Bool => read_truths(alloc, validity, text, at, depth),
+        DataType::Int(ty) => match IntBuilder::with_capacity(alloc, *ty, flagged(validity)) {
+            Ok(builder) => read_slots(IntColumn { ty: *ty, builder }, validity, text, at, depth),
+            Err(NoMemory) => Err(Miss::NoMemory),
+        },
+        DataType::Bool => match BoolBuilder::with_capacity(alloc, flagged(validity)) {
+            Ok(builder) => read_slots(builder, validity, text, at, depth),
+            Err(NoMemory) => Err(Miss::NoMemory),
+        },
         DataType::Utf8 => read_texts(alloc, OffsetWidth::Narrow, validity, text, at, depth),
         DataType::LargeUtf8 => read_texts(alloc, OffsetWidth::Wide, validity, text, at, depth),
         DataType::List(_) | DataType::LargeList(_) | DataType::Dict => Err(Miss::Unread),

@@ -13,7 +13,7 @@ use Rattle.arrays.specs.Seen.{Seen, no_entries}
 use Rattle.arrays.specs.Shape.{FieldShape}
 use Rattle.arrow_json.specs.JsonTable.{Table, items_of, table_of, tables_of}
 use Rattle.arrow_json.specs.Text.{document, text}
-use Rattle.arrow_json.specs.Written.{compact_text}
+use Rattle.serde_json.specs.Written.{compact_text}
 use Rattle.table.specs.Export.{IsLawful}
 use Rattle.table.specs.History.{History}
 use Rattle.table.proofs.BatchLemmas.{HasColumns-rows_of}

@@ -6,7 +6,7 @@ use Rattle.arrays.specs.Shape.{FieldShape}
 use Rattle.arrow_json.specs.JsonTable.{Table}
 use Rattle.arrow_json.specs.Text.{document}
 use Rattle.ends.specs.Line.{line}
-use Rattle.arrow_json.specs.Written.{compact_text}
+use Rattle.serde_json.specs.Written.{compact_text}
 use Rattle.table.specs.History.{History}
 
 -- What one call added, column by column under the fields.

@@ -1,7 +1,7 @@
 -- The output of `schema`, line by line.
 use Rattle.std.specs.Prelude.{ℕ, List, ◌++◌, Bool, codes}
 use Rattle.std.specs.List.{flat_map}
-use Rattle.arrow_json.specs.Print.{quoted}
+use Rattle.json.specs.Print.{quoted}
 use Rattle.ends.specs.Line.{line}
 use Rattle.arrays.specs.Kind.{Kind}
 use Rattle.arrays.specs.Shape.{FieldShape, is_nullable, kind_of_field, name_of}

@@ -2,7 +2,7 @@
 use Rattle.std.specs.Prelude.{ℕ, List, ◌++◌, ◌||◌, ◌==◌, chars, codes, cond, encode_utf8, flat_map, nat_lt}
 use Rattle.std.specs.Fmt.{decimal}
 use Rattle.ends.specs.Line.{message}
-use Rattle.arrow_json.specs.Print.{escape_byte}
+use Rattle.json.specs.Print.{escape_byte}
 use Rattle.reports.specs.RefusalText.{refusal_text}
 use Rattle.arrow_json.specs.JsonFaultText.{fault_text}
 use Rattle.table.specs.declared.refusal.Refusal.{Refusal}

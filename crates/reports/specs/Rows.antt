@@ -1,7 +1,7 @@
 -- The output of `head`, line by line.
 use Rattle.std.specs.Prelude.{ℕ, List, ◌++◌, codes, map, take}
 use Rattle.std.specs.List.{flat_map, join_with_byte, zip}
-use Rattle.arrow_json.specs.Print.{quoted}
+use Rattle.json.specs.Print.{quoted}
 use Rattle.ends.specs.Line.{line}
 use Rattle.arrays.specs.Batch.{Row}
 use Rattle.arrays.specs.Item.{Item}

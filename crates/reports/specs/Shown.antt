@@ -2,7 +2,7 @@
 use Rattle.std.specs.Prelude.{ℕ, ℤ, List, [], ◌∷◌, ◌++◌, length, Bool, true, false, Option, Some, None, codes}
 use Rattle.std.specs.List.{enumerate_from, range_with_len, flat_map, join_with_byte}
 use Rattle.std.specs.Fmt.{decimal, signed_decimal}
-use Rattle.arrow_json.specs.Print.{quoted}
+use Rattle.json.specs.Print.{quoted}
 use Rattle.ends.specs.Line.{line}
 use Rattle.arrays.specs.Width.{Width}
 use Rattle.arrays.specs.Widths.{W8, W16, W32, W64}

@@ -1,6 +1,6 @@
 //! Names of files as they are reported: in one line.
 ghost use Rattle.std.specs.Prelude.{◌≡◌, ◌++◌, ◌<◌, ◌⊎◌, OnOk, string_bytes};
-ghost use Rattle.arrow_json.specs.Print.{escape_byte};
+ghost use Rattle.json.specs.Print.{escape_byte};
 ghost use Rattle.reports.specs.Lines.{escaped_char, escaped_name};
 
 use std::alloc::AllocError;
@@ -29,7 +29,7 @@ fn push_char(text: &mut String, c: char) -> Result<(), AllocError>
 }
 
 /// What stands for a control character, or else for the backslash, in a JSON string.
-#[tactic(auto, unfolding(arrow_json::specs::Print::escape_byte))]
+#[tactic(auto, unfolding(json::specs::Print::escape_byte))]
 fn escape_of(c: char) -> &'static str
     requires { (c < 32) ⊎ (c ≡ 92) }
     ensures { result.now ≡ escape_byte c }

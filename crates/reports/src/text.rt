@@ -3,12 +3,12 @@ ghost use Rattle.std.specs.Prelude.{◌≡◌, ◌++◌, OnOk, IfOk, option_map,
 ghost use Rattle.arrays.specs.Item as item;
 ghost use Rattle.arrays.specs.Kind.{kind_of};
 ghost use Rattle.table.specs.Summary.{scalar_item};
-ghost use Rattle.arrow_json.specs.Print.{quoted};
+ghost use Rattle.json.specs.Print.{quoted};
 ghost use Rattle.reports.specs.Fields.{schema_line};
 ghost use Rattle.reports.specs.Shown.{cell, column_line, shown_kind, rows_line, sum_text, truth_text, shown_int, value_text, worker_line};
 
 use arrays::{DataType, IntType, NoMemory, Width};
-use arrow_json::Value;
+use serde_json::Value;
 use std::alloc::{AllocError, Global};
 use table::{ColumnStats, Scalar};
 

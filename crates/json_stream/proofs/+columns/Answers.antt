@@ -49,18 +49,18 @@ list::read_list-list_array-requires-clause-plain t c =
     let inner = child_below _ c.args.depth c.saturating_sub.result c.args.text.now c.in-Some-child.child child c.saturating_sub.ensures c.in_ok-child.ensures in
     (child_held c.args.width _ (c.args.depth - 1) c.args.text.now read.0 c.in_ok-read.read.value c.in-Some-child.child child read.2 c.in-Some-child.is inner).1
 
-pub list::read_list-returns-in-Ok-clause-ok : goal.list::read_list-returns-in-Ok-clause-ok
-list::read_list-returns-in-Ok-clause-ok t c =
+pub list::read_list-returns-clause-ok : goal.list::read_list-returns-clause-ok
+list::read_list-returns-clause-ok t c =
     let read = c.in_ok-read.ensures.ok in
     let parts = c.in_ok-read.read.value in
     let slots = c.in_ok-slots.slots in
     let laid = c.in_ok-slots.ensures in
     let child = c.in_ok-child.child in
     let inner = child_below _ c.args.depth c.saturating_sub.result c.args.text.now c.in-Some-child.child child c.saturating_sub.ensures c.in_ok-child.ensures in
-    let lawful = rw laid.width at c.in-Ok.ensures.lawful in
-    let shows = rw laid.width at c.in-Ok.ensures.shows in (
+    let lawful = rw laid.width at c.in_ok-value.ensures.lawful in
+    let shows = rw laid.width at c.in_ok-value.ensures.shows in (
       object read.0,
       read.1,
-      lists_held c.args.width _ (c.args.depth - 1) c.args.text.now read.0 parts slots.len c.in-Some.offsets c.in-Some-child.child slots.validity slots.offsets child c.in-Ok.value
+      lists_held c.args.width _ (c.args.depth - 1) c.args.text.now read.0 parts slots.len c.in-Some.offsets c.in-Some-child.child slots.validity slots.offsets child c.in_ok-value.value
           read.2 c.in-Some.is c.in-Some-child.is laid.count laid.whole laid.validity laid.offsets laid.enough inner lawful shows,
     )

@@ -31,7 +31,7 @@ read_item_values-returns-in-End-clause-ok t c =
     let all =
     all_items c.args.depth (drop c.args.start d) (drop c.items.at d) (drop item.item.end d) (drop mark.mark.end d) (map view c.items.values.items) (view item.item.value) c.items.invariant.so_far item.ensures.ok
     (rw c.in-End.is at (rw c.as_bytes.ensures.value at mark.ensures.reads)) in
-    subst (λ ds. SpellsItems c.args.depth (drop c.args.start d) ds (drop mark.mark.end d)) (items_viewed c.items.values.items item.item.value ∙ ap (λ vs. items_of (map view vs)) (sym c.in-Ok.ensures.items)) all
+    subst (λ ds. SpellsItems c.args.depth (drop c.args.start d) ds (drop mark.mark.end d)) (items_viewed c.items.values.items item.item.value ∙ ap (λ vs. items_of (map view vs)) (sym c.in_ok-push.ensures)) all
 
 pub read_item_values-items-preserved : goal.read_item_values-items-preserved
 read_item_values-items-preserved t c =
@@ -44,7 +44,7 @@ read_item_values-items-preserved t c =
     record {
       onward = omega (arith, c.items.invariant.onward, item.ensures.onward, mark.ensures.onward);
       within = rw c.as_bytes.ensures.value at mark.ensures.within;
-      so_far = subst (λ ds. ItemsTo c.args.depth (drop c.args.start d) ds (drop mark.mark.end d)) (sym (map-append view c.items.values.items (item.item.value ∷ [])) ∙ ap (map view) (sym c.in-Ok.ensures.items)) more;
+      so_far = subst (λ ds. ItemsTo c.args.depth (drop c.args.start d) ds (drop mark.mark.end d)) (sym (map-append view c.items.values.items (item.item.value ∷ [])) ∙ ap (map view) (sym c.in_ok-push.ensures)) more;
     }
 
 pub read_object_value-returns-in-Some-clause-ok : goal.read_object_value-returns-in-Some-clause-ok

@@ -4,13 +4,13 @@ use Rattle.json_read.specs.Data.{object}
 use Rattle.json_stream.proofs.ReadBatches.{batch_read}
 use Rattle.json_stream.proofs.batch.read_batch.Goals as goal
 
-pub returns-in-Ok-clause-ok : goal.returns-in-Ok-clause-ok
-returns-in-Ok-clause-ok c =
+pub returns-clause-ok : goal.returns-clause-ok
+returns-clause-ok c =
     let read = c.in_ok-end.ensures.ok in
     let h = read.2 (refl, refl, record { count = refl; columns = tt }) in
-    let made = c.in-Ok.ensures in (
+    let made = c.in_ok-value.ensures in (
       object read.0,
       read.1,
-      batch_read (arc_value c.args.schema.now) _ _ read.0 c.read_object.new.visitor c.in-Some.rows c.in-Some-columns.columns c.in-Ok.value (c.fields.ensures.value ∙ c.deref.ensures) h.2 c.in-Some.is c.in-Some-columns.is made.rows made.columns
+      batch_read (arc_value c.args.schema.now) _ _ read.0 c.read_object.new.visitor c.in-Some.rows c.in-Some-columns.columns c.in_ok-value.value (c.fields.ensures.value ∙ c.deref.ensures) h.2 c.in-Some.is c.in-Some-columns.is made.rows made.columns
           made.whole made.even,
     )

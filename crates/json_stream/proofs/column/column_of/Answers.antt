@@ -15,9 +15,9 @@ returns-in-Some c =
     let values = subst (IsValues _ _ p.validity (get_member (member_name member.Data) ms)) c.in-Some.is h.values in
     column_held _ _ c.args.depth c.args.text.now ms p c.in-Some.array a h values whole.0 whole.1 whole.2)
 
-pub returns-in-Ok : goal.returns-in-Ok
-returns-in-Ok c =
+pub returns : goal.returns
+returns c =
     let p = c.args.parts in
-    if_ok_then c.if_whole-in-Ok.result c.if_whole-in-Ok.ensures
+    if_ok_then c.if_whole-2.result c.if_whole-2.ensures
     (λ a whole ms h.
-    column_held _ _ c.args.depth c.args.text.now ms p c.in-Ok.array a h (c.in-Ok.ensures (get_member (member_name member.Data) ms) h.place) whole.0 whole.1 whole.2)
+    column_held _ _ c.args.depth c.args.text.now ms p c.in_ok-array.array a h (c.in_ok-array.ensures (get_member (member_name member.Data) ms) h.place) whole.0 whole.1 whole.2)

@@ -4,6 +4,7 @@ use Rattle.std.specs.Prelude.{FitsSigned}
 use Rattle.std.proofs.lemmas.Int.{to_z-of_z}
 use Rattle.json_read.specs.JsonPath.{member_name}
 use Rattle.json_read.specs.Members as member
+use Rattle.json_scan.proofs.Values.{if_ok_then}
 use Rattle.json_file.proofs.DictionaryLemmas.{id_taken, words_taken, entry_passed}
 use Rattle.json_file.proofs.dictionary.EntryPartsMemberVisitor.visit.Goals as goal
 
@@ -21,9 +22,8 @@ returns-then-eq-2-clause-ok c =
     let same : c.args.name.now ≡ member_name member.Texts = search rules in
     (read.0, read.1, λ first ms h. words_taken c.args.name.now read.0 ms c.args.self.now h c.in_ok-words.words.value same read.2)
 
-pub returns-in-Some-pass_value-clause-ok : goal.returns-in-Some-pass_value-clause-ok
-returns-in-Some-pass_value-clause-ok c =
-    let read = rw c.as_bytes.ensures.value at c.in-Some-pass_value.ensures.reads in
+pub returns-clause-ok : goal.returns-clause-ok
+returns-clause-ok c =
     let no_id : c.args.name.now ≢ member_name member.Id = search rules in
     let no_words : c.args.name.now ≢ member_name member.Texts = search rules in
-    (read.0, read.1, λ first ms h. entry_passed c.args.name.now read.0 ms c.args.self.now h no_id no_words)
+    if_ok_then c.pass_over.result c.pass_over.ensures.ok (λ end read. (read.0, read.1, λ first ms h. entry_passed c.args.name.now read.0 ms c.args.self.now h no_id no_words))

@@ -2,6 +2,7 @@ use Rattle.std.proofs.Common.{◌≡◌, ◌≢◌, rules}
 use Rattle.json_read.specs.Data.{number}
 use Rattle.json_read.specs.JsonPath.{member_name}
 use Rattle.json_read.specs.Members as member
+use Rattle.json_scan.proofs.Values.{if_ok_then}
 use Rattle.json_stream.proofs.ColumnLemmas.{counted}
 use Rattle.json_file.proofs.TextLemmas.{count_taken, texts_taken, texts_passed}
 use Rattle.json_file.proofs.texts.TextsPartsMemberVisitor.visit.Goals as goal
@@ -19,9 +20,8 @@ returns-then-eq-2-clause-ok c =
     let same : c.args.name.now ≡ member_name member.Columns = search rules in
     (read.0, read.1, λ first ms h. texts_taken c.args.name.now read.0 ms c.args.self.now h c.in_ok-texts.texts.value same read.2)
 
-pub returns-in-Some-pass_value-clause-ok : goal.returns-in-Some-pass_value-clause-ok
-returns-in-Some-pass_value-clause-ok c =
-    let read = rw c.as_bytes-2.ensures.value at c.in-Some-pass_value.ensures.reads in
+pub returns-clause-ok : goal.returns-clause-ok
+returns-clause-ok c =
     let no_count : c.args.name.now ≢ member_name member.Count = search rules in
     let no_columns : c.args.name.now ≢ member_name member.Columns = search rules in
-    (read.0, read.1, λ first ms h. texts_passed c.args.name.now read.0 ms c.args.self.now h no_count no_columns)
+    if_ok_then c.pass_over.result c.pass_over.ensures.ok (λ end read. (read.0, read.1, λ first ms h. texts_passed c.args.name.now read.0 ms c.args.self.now h no_count no_columns))

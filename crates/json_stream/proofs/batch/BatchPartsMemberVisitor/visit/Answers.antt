@@ -5,6 +5,7 @@ use Rattle.json_read.specs.JsonPath.{member_name}
 use Rattle.json_read.specs.Members as member
 use Rattle.json_read.specs.CatalogParts.{coding_of}
 use Rattle.json_scan.specs.Spelling.{before}
+use Rattle.json_scan.proofs.Values.{if_ok_then}
 use Rattle.json_stream.proofs.BatchLemmas.{columns_known}
 use Rattle.json_stream.proofs.ColumnLemmas.{counted}
 use Rattle.json_stream.proofs.ReadBatches.{rows_taken, columns_taken, other_passed}
@@ -30,9 +31,8 @@ returns-then-eq-2-clause-ok c =
           (h.0, h.1, columns_taken _ _ c.args.name.now d ms c.args.self.now h.2 columns read.0 same refl are),
     )
 
-pub returns-in-Some-pass_value-clause-ok : goal.returns-in-Some-pass_value-clause-ok
-returns-in-Some-pass_value-clause-ok c =
-    let read = rw c.as_bytes-2.ensures.value at c.in-Some-pass_value.ensures.reads in
+pub returns-clause-ok : goal.returns-clause-ok
+returns-clause-ok c =
     let no_count : c.args.name.now ≢ member_name member.Count = search rules in
     let no_columns : c.args.name.now ≢ member_name member.Columns = search rules in
-    (read.0, read.1, λ first ms h. (h.0, h.1, other_passed _ _ c.args.name.now read.0 ms c.args.self.now h.2 no_count no_columns))
+    if_ok_then c.pass_over.result c.pass_over.ensures.ok (λ end read. (read.0, read.1, λ first ms h. (h.0, h.1, other_passed _ _ c.args.name.now read.0 ms c.args.self.now h.2 no_count no_columns)))

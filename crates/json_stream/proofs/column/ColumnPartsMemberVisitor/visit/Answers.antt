@@ -3,6 +3,7 @@ use Rattle.json_scan.specs.Lex.{lex, between, begins_colon}
 use Rattle.json_read.specs.Data.{number}
 use Rattle.json_read.specs.JsonPath.{member_name}
 use Rattle.json_read.specs.Members as member
+use Rattle.json_scan.proofs.Values.{if_ok_then}
 use Rattle.json_stream.specs.Column.{IsValues}
 use Rattle.json_stream.specs.Field.{kind_in, coding_in}
 use Rattle.json_stream.proofs.ColumnLemmas.{count_taken, counted, validity_taken, data_taken, passed}
@@ -37,10 +38,9 @@ returns-then-eq-3-clause-ok c =
       ),
     )
 
-pub returns-in-Some-pass_value-clause-ok : goal.returns-in-Some-pass_value-clause-ok
-returns-in-Some-pass_value-clause-ok c =
-    let read = rw c.as_bytes-2.ensures.value at c.in-Some-pass_value.ensures.reads in
+pub returns-clause-ok : goal.returns-clause-ok
+returns-clause-ok c =
     let no_count : c.args.name.now ≢ member_name member.Count = search rules in
     let no_validity : c.args.name.now ≢ member_name member.Validity = search rules in
     let no_data : c.args.name.now ≢ member_name member.Data = search rules in
-    (read.0, read.1, λ first ms h. (h.0, passed _ _ c.args.depth c.args.text.now c.args.name.now read.0 ms c.args.self.now h.1 no_count no_validity no_data))
+    if_ok_then c.pass_over.result c.pass_over.ensures.ok (λ end read. (read.0, read.1, λ first ms h. (h.0, passed _ _ c.args.depth c.args.text.now c.args.name.now read.0 ms c.args.self.now h.1 no_count no_validity no_data)))

@@ -7,14 +7,14 @@ use Rattle.json_read.specs.JsonBatch.{HoldsTop}
 use Rattle.json_stream.proofs.BatchLemmas.{columns_known, column_taken}
 use Rattle.json_stream.proofs.columns.ColumnsItemVisitor.visit.Goals as goal
 
-pub returns-in-Ok-push-clause-ok : goal.returns-in-Ok-push-clause-ok
-returns-in-Ok-push-clause-ok c =
+pub returns-clause-ok : goal.returns-clause-ok
+returns-clause-ok c =
     let self = c.args.self.now in
     let fields = self.fields.now in
     let catalog = self.catalog.now in
     let columns = self.columns.items in
-    let column = c.in-Ok.column.value in
-    let read = c.in-Ok.ensures.ok in
+    let column = c.in_ok-column.column.value in
+    let read = c.in_ok-column.ensures.ok in
     let n = c.len-index.result in
     let many : n ≡ length columns = search rules in
     let at_field : n < length fields = omega arith in
@@ -30,5 +30,5 @@ returns-in-Ok-push-clause-ok c =
           let coded = ap (λ r. map (option_map coding_of) r.now) h.1 in
           let before = columns_known _ _ _ _ ds columns (sym same) (sym coded) h.2 in
           let more = column_taken fields catalog ds columns n field.result coding.result read.0 column before many at_field field.is at_coding coding.is holds in
-          (h.0, h.1, rw c.in-Ok-push.ensures (columns_known _ _ _ _ (ds ++ read.0 ∷ []) (columns ++ column ∷ []) same coded more)),
+          (h.0, h.1, rw c.in_ok-push.ensures (columns_known _ _ _ _ (ds ++ read.0 ∷ []) (columns ++ column ∷ []) same coded more)),
     )

@@ -4,6 +4,7 @@ use Rattle.arrays.specs.Kind.{kind_of}
 use Rattle.json_read.specs.Data.{number, array}
 use Rattle.json_read.specs.JsonPath.{member_name}
 use Rattle.json_read.specs.Members as member
+use Rattle.json_scan.proofs.Values.{if_ok_then}
 use Rattle.json_stream.specs.Lists.{HoldsChildMember, array_of_one}
 use Rattle.json_stream.specs.Offsets.{IsOffsets}
 use Rattle.json_stream.proofs.ColumnLemmas.{counted}
@@ -56,11 +57,10 @@ returns-then-eq-4-clause-ok c =
       ),
     )
 
-pub returns-in-Some-pass_value-clause-ok : goal.returns-in-Some-pass_value-clause-ok
-returns-in-Some-pass_value-clause-ok c =
-    let read = rw c.as_bytes-2.ensures.value at c.in-Some-pass_value.ensures.reads in
+pub returns-clause-ok : goal.returns-clause-ok
+returns-clause-ok c =
     let no_count : c.args.name.now ≢ member_name member.Count = search rules in
     let no_validity : c.args.name.now ≢ member_name member.Validity = search rules in
     let no_offset : c.args.name.now ≢ member_name member.Offset = search rules in
     let no_children : c.args.name.now ≢ member_name member.Children = search rules in
-    (read.0, read.1, λ first ms h. (h.0, h.1, lists_passed _ _ c.args.depth c.args.text.now c.args.name.now read.0 ms c.args.self.now.parts h.2 no_count no_validity no_offset no_children))
+    if_ok_then c.pass_over.result c.pass_over.ensures.ok (λ end read. (read.0, read.1, λ first ms h. (h.0, h.1, lists_passed _ _ c.args.depth c.args.text.now c.args.name.now read.0 ms c.args.self.now.parts h.2 no_count no_validity no_offset no_children)))
