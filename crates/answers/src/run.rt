@@ -38,6 +38,7 @@ pub(crate) fn add_part<G: Gate>(
 ) -> Result<(), Stop>
     requires fits { fits batch.now.fields (query_shape scan.now.query.now) ≡ true }
     requires within { start + rows ≤ batch.now.rows }
+    requires short { start + rows < 2 ^ 32 }
     requires room { HasRowRoom batch.now.fields scan.now.query.now rows grouping.old }
     ensures ok { (before : Table) → HasKept batch.now.fields scan.now.query.now before grouping.old
         → OnOk result (HasKept batch.now.fields scan.now.query.now (before ++ rows_in batch.now start rows) grouping.new) }
@@ -52,8 +53,6 @@ pub(crate) fn add_part<G: Gate>(
         grouping.add_count(query, rows as u64);
         return Ok(());
     }
-    // There are no more rows than a batch may have.
-    let _rows = batch.rows();
     grouping.begin(query, batch)?;
     let most = most_rows(query);
     let mut at: usize = 0;

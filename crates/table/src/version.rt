@@ -100,6 +100,7 @@ impl Version {
         ensures value { map (λ b. rows_of (arc_value b)) result.now ≡ self.now.batches }
         ensures lawful { All (λ b. IsStored self.now.fields (arc_value b)) result.now }
         ensures rows { rows_of_batches (map arc_value result.now) ≡ rows self.now.history }
+        ensures few { length (rows self.now.history) ≤ 2 ^ 40 }
         ensures ends { (i : ℕ) → i ≤ length result.now → EndsWithEntry (map arc_value result.now) (book self.now.history) i }
         ensures fronts { All (λ b. NamesFronts self.now.fields (rows self.now.history) (arc_value b)) result.now }
     {
@@ -155,8 +156,6 @@ impl Version {
         ensures ok { IfOk result (IsAnswer self.now.fields (query_shape query.now) (rows self.now.history)) }
         ensures err { IfErr result (IsRefusal self.now.fields (query_shape query.now) (rows self.now.history)) }
     {
-        // They are few enough, as is said with their number.
-        let _rows = self.rows();
         answers::answer(threads, alloc, self.batches(), query, pieces, gate)
     }
 
@@ -174,8 +173,6 @@ impl Version {
         ensures ok { IfOk result (IsAnswer self.now.fields (query_shape query.now) (rows self.now.history)) }
         ensures err { IfErr result (IsRefusal self.now.fields (query_shape query.now) (rows self.now.history)) }
     {
-        // They are few enough, as is said with their number.
-        let _rows = self.rows();
         answers::answer_alone(alloc, self.batches(), query, gate)
     }
 

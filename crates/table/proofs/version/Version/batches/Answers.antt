@@ -1,4 +1,4 @@
-use Rattle.std.proofs.Common.{◌≡◌, ◌∙◌, ◌≤◌, ℕ, All, List, Option, ap, arith, length, map, subst, sym}
+use Rattle.std.proofs.Common.{◌≡◌, ◌∙◌, ◌≤◌, ◌^◌, ℕ, All, List, Option, ap, arith, length, map, subst, sym}
 use Rattle.std.proofs.lemmas.List.{length-map}
 use Rattle.std.proofs.lemmas.Simd.{map-map}
 use Rattle.std.specs.List.{AllZip}
@@ -13,7 +13,7 @@ use Rattle.table.specs.Storage.{batches_of, book_of, dictionaries_in}
 use Rattle.table.specs.History.{book, rows}
 use Rattle.compaction.specs.Under.{NamesFront}
 use Rattle.table.specs.Lawful.{EndsWithEntry, IsStored, NamesFronts, dictionaries_of, rows_of_batches}
-use Rattle.table.proofs.StorageLemmas.{all-of-map, book-shown, rows-shown}
+use Rattle.table.proofs.StorageLemmas.{all-of-map, book-shown, count-shown, rows-shown}
 use Rattle.table.proofs.version.Version.batches.Goals as goal
 
 abbrev Shared : Type 0
@@ -37,6 +37,12 @@ returns-clause-rows c =
     ap (λ (l : List Shared). rows_of_batches (map (λ (b : Shared). arc_value b) l)) c.deref.ensures.value
     ∙ sym (rows-shown c.storage.result.now c.storage.ensures.lawful)
     ∙ ap (λ (s : Contents). rows s.history) c.storage.ensures.shown
+
+pub returns-clause-few : goal.returns-clause-few
+returns-clause-few c =
+    let storage = c.storage.result.now in
+    let count = count-shown storage c.storage.ensures.lawful ∙ ap (λ (s : Contents). length (rows s.history)) c.storage.ensures.shown in
+    subst (λ n. n ≤ 2 ^ 40) (sym c.storage.ensures.lawful.rows ∙ count) c.storage.ensures.lawful.lawful.few
 
 pub returns-clause-ends : goal.returns-clause-ends
 returns-clause-ends c i within =
