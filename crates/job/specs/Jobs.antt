@@ -69,8 +69,8 @@ HasOwn rows Export = ⊤
 HasOwn rows (Query source output) = HasQuery rows source × HasOutput rows output
 
 -- The text of a column's field is the value of --add-column, where there is one.
-abbrev pub HasColumn : List Row → Option (String Global) → Type 0
-HasColumn rows column = option_map string_bytes column ≡ first_of (codes "FIELD") rows
+abbrev pub HasAddedColumn : List Row → Option (String Global) → Type 0
+HasAddedColumn rows column = option_map string_bytes column ≡ first_of (codes "FIELD") rows
 
 -- The names of the files of a table.
 abbrev pub names_of : List (String Global) → List Text
@@ -124,7 +124,7 @@ pub record Finds (found : Option (Text × List Row)) (job : Job) : Type 0 where
   pub own : HasOwn rows job.command
   pub names : all_of (codes "FILE") rows ≡ Some (names_of job.names.items)
   pub workers : HasWorkers rows job.workers
-  pub column : HasColumn rows job.column
+  pub column : HasAddedColumn rows job.column
 
 -- `clap` takes the words, and finds the job in them.
 pub record Asks (words : List Text) (job : Job) : Type 0 where

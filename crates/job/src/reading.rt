@@ -1,7 +1,7 @@
 //! The words of the command line as a job.
 ghost use Rattle.std.specs.Prelude.{◌≡◌, ◌≤◌, IfErr, IfOk, IfSome, None, codes, map, option_map};
 ghost use Rattle.clap.specs.Words.{all_of, first_of, found_of, rows_of, subcommand_rows_of};
-ghost use Rattle.job.specs.Jobs.{Asks, Finds, HasColumn, HasNoOutput, HasNoWorkers, HasOutput, HasOwn, HasQuery, HasWorkers, IsFaultOf, IsNoCommand, IsReady, IsUnfound, names_of, word_of};
+ghost use Rattle.job.specs.Jobs.{Asks, Finds, HasAddedColumn, HasNoOutput, HasNoWorkers, HasOutput, HasOwn, HasQuery, HasWorkers, IsFaultOf, IsNoCommand, IsReady, IsUnfound, names_of, word_of};
 
 use crate::command_line::arrowtab;
 use crate::fault::JobFault;
@@ -164,7 +164,7 @@ fn file_of<'a>(found: &ArgMatches<'a>) -> Option<&'a str>
 
 /// A copy of what stands for `--add-column`, where it is there.
 fn column_of(alloc: Global, found: &ArgMatches<'_>) -> Result<Option<String>, AllocError>
-    ensures { IfOk result (HasColumn (rows_of (found_of found.now))) }
+    ensures { IfOk result (HasAddedColumn (rows_of (found_of found.now))) }
 {
     match field_of(found) {
         Some(field) => Ok(Some(String::from_str(alloc, field)?)),

@@ -1,6 +1,6 @@
 -- The words of this crate's contracts.
+pub mod Reading
 pub mod QueryForm
 pub mod QueryExpr
-pub mod QueryExprFault
 pub mod QueryDocument
 pub mod QueryDocumentFault

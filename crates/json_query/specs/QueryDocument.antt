@@ -1,71 +1,74 @@
 -- The query that a text asks. (JSON: RFC 8259)
-use Rattle.std.specs.Prelude.{◌≡◌, ℕ, ◌≤◌, List, length, codes, true, Option, Some, None, IsUtf8}
+use Rattle.std.specs.Prelude.{◌≡◌, ℕ, List, [], ◌∷◌, codes, if◌then◌else◌, nat_le, Bool, Option, Some, None, Ok, is_some}
+use Rattle.std.specs.Str.{bytes_eq, is_utf8}
 use Rattle.query.specs.declared.expr.Agg.{Agg}
 use Rattle.query.specs.declared.expr.Agg.TheVariants.{Rows, Count, Sum, Least, Greatest}
 use Rattle.query.specs.QueryShape.{QueryShape}
 use Rattle.query.specs.Tree.{Tree}
 use Rattle.json_base.specs.Data.{Data, Items, no_items}
-use Rattle.json_base.specs.Find.{as_array, as_str}
+use Rattle.json_base.specs.Find.{as_null}
+use Rattle.json_base.specs.Events.{items_len}
 use Rattle.json_base.specs.Read.{read}
-use Rattle.json_base.specs.JsonMember.{IsObject, member_of, is_without, ReadsEach}
+use Rattle.json_base.specs.JsonMember.{member_of}
 use Rattle.json_base.specs.declared.path.Member.{Member}
 use Rattle.json_base.specs.declared.path.Member.TheVariants as member
-use Rattle.json_query.specs.QueryExpr.{HasText, ReadsExpr}
+use Rattle.json_base.specs.declared.path.Step.TheVariants as step
+use Rattle.json_base.specs.declared.fault.JsonFaultKind.TheVariants.{NotJson, WrongMember}
+use Rattle.json_query.specs.Reading.{JsonReading, faulty, wanted, chain, mapped, both, under, string_of, array_of, if_object, required, optional, items}
+use Rattle.json_query.specs.QueryExpr.{expr}
 
 -- ---- the parts of a query
 
--- The names of the aggregates.
-abbrev pub agg_name : {C : Type 0} → Agg C → List ℕ
-agg_name Rows = codes "rows"
-agg_name (Count c) = codes "count"
-agg_name (Sum c) = codes "sum"
-agg_name (Least c) = codes "least"
-agg_name (Greatest c) = codes "greatest"
+-- The aggregate of the name, over the column of the object; the number of rows is over none.
+abbrev pub agg_named : List ℕ → Data → JsonReading (Agg (List ℕ))
+agg_named name d =
+    if bytes_eq name (codes "rows") then Ok Rows
+    else if bytes_eq name (codes "count") then mapped Count (required member.Column string_of d)
+    else if bytes_eq name (codes "sum") then mapped Sum (required member.Column string_of d)
+    else if bytes_eq name (codes "least") then mapped Least (required member.Column string_of d)
+    else if bytes_eq name (codes "greatest") then mapped Greatest (required member.Column string_of d)
+    else faulty WrongMember (step.Member member.Agg ∷ [])
 
--- The column that it is over; the number of rows is over none.
-abbrev pub HasColumn : Data → Agg (List ℕ) → Type 0
-HasColumn d Rows = Unit {0}
-HasColumn d (Count name) = HasText member.Column d name
-HasColumn d (Sum name) = HasText member.Column d name
-HasColumn d (Least name) = HasText member.Column d name
-HasColumn d (Greatest name) = HasText member.Column d name
+abbrev pub agg : Data → JsonReading (Agg (List ℕ))
+agg d = chain (required member.Agg string_of d) (λ name. agg_named name d)
 
-abbrev pub ReadsAgg : Data → Agg (List ℕ) → Type 0
-ReadsAgg d a = HasText member.Agg d (agg_name a) × HasColumn d a
+-- What is there, unless it is null.
+abbrev pub unless_null : {A : Type 0} → (Data → JsonReading A) → Data → JsonReading (Option A)
+unless_null r d = if is_some (as_null d) then Ok None else mapped Some (r d)
 
 -- Every row is requested where the filter is absent or null.
-abbrev pub ReadsFilter : Data → Option (Tree (List ℕ)) → Type 0
-ReadsFilter d None = is_without (member_of member.Filter d) ≡ true
-ReadsFilter d (Some t) = (e : Data) × (member_of member.Filter d ≡ Some e) × ReadsExpr e t
+abbrev pub filter : Data → JsonReading (Option (Tree (List ℕ)))
+filter d = under (step.Member member.Filter) (optional None (unless_null expr) (member_of member.Filter d))
 
 -- The items of an array that may be absent: then there are none.
-abbrev pub items_or_none : Option Data → Option Items
-items_or_none None = Some no_items
-items_or_none (Some d) = as_array d
+abbrev pub list_in : Member → Data → JsonReading Items
+list_in m d = under (step.Member m) (optional no_items array_of (member_of m d))
 
--- The items of such a member, one by one.
-pub record ReadsList {A : Type 0} (m : Member) (Reads : Data → A → Type 0) (d : Data) (xs : List A) : Type 0 where
-  pub found : Items
-  pub listed : items_or_none (member_of m d) ≡ Some found
-  pub each : ReadsEach Reads found xs
+-- At most four columns make a key.
+abbrev pub few : Items → JsonReading (Unit {0})
+few names = if nat_le (items_len names) 4 then Ok tt else faulty WrongMember (step.Member member.By ∷ [])
 
--- A name is a text.
-abbrev pub ReadsName : Data → List ℕ → Type 0
-ReadsName d name = as_str d ≡ Some name
+abbrev pub by : Data → JsonReading (List (List ℕ))
+by d = both (λ _ names. names) (chain (list_in member.By d) few) (items member.By string_of (list_in member.By d))
+
+abbrev pub aggs : Data → JsonReading (List (Agg (List ℕ)))
+aggs d = items member.Aggs agg (list_in member.Aggs d)
 
 -- ---- queries
 
--- The object of a query.
-pub record ReadsQuery (d : Data) (q : QueryShape (List ℕ)) : Type 0 where
-  pub object : IsObject d
-  pub filter : ReadsFilter d q.filter
-  pub by : ReadsList member.By ReadsName d q.by
-  pub few : length q.by ≤ 4
-  pub aggs : ReadsList member.Aggs ReadsAgg d q.aggs
+abbrev pub shape : List (List ℕ) → List (Agg (List ℕ)) → Option (Tree (List ℕ)) → QueryShape (List ℕ)
+shape by aggs filter = record { filter = filter; by = by; aggs = aggs }
 
--- The bytes are the text of such an object.
+abbrev pub query_of : Data → JsonReading (QueryShape (List ℕ))
+query_of d = if_object d (both (λ f x. f x) (both shape (by d) (aggs d)) (filter d))
+
+-- The bytes are UTF-8, and JSON that is nested at most 127 deep.
+abbrev pub document_of : List ℕ → JsonReading Data
+document_of bytes = wanted NotJson (if is_utf8 bytes then read bytes else None)
+
+unfoldable pub query_text : List ℕ → JsonReading (QueryShape (List ℕ))
+query_text bytes = chain (document_of bytes) query_of
+
+-- The bytes are the text of the query.
 pub record ReadsQueryText (bytes : List ℕ) (q : QueryShape (List ℕ)) : Type 0 where
-  pub text : IsUtf8 bytes
-  pub document : Data
-  pub parsed : read bytes ≡ Some document
-  pub query : ReadsQuery document q
+  pub reads : query_text bytes ≡ Ok q

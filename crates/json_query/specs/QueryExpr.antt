@@ -1,42 +1,44 @@
 -- The expression that an object spells. (JSON: RFC 8259)
-use Rattle.std.specs.Prelude.{◌≡◌, ℕ, List, string_bytes, Some, option_and_then}
+use Rattle.std.specs.Prelude.{ℕ, ◌==◌, List, [], ◌∷◌, string_bytes, if◌then◌else◌, Ok}
 use Rattle.std.specs.declared.string.String.{String}
 use Rattle.std.specs.declared.alloc.Global.{Global}
 use Rattle.query.specs.declared.expr.Op.{Op}
 use Rattle.query.specs.declared.expr.Expr.{Expr}
 use Rattle.query.specs.Resolved.{renamed}
-use Rattle.query.specs.Tree.{Tree, column, int, text, op, Trees, none, one, tree_of}
-use Rattle.json_base.specs.Data.{Data, Items, no_items, item}
-use Rattle.json_base.specs.Find.{as_array, as_str}
+use Rattle.query.specs.Tree.{Tree, column, int, text, op, trees, tree_of}
+use Rattle.json_base.specs.Data.{Data, Items}
 use Rattle.json_base.specs.Events.{items_len}
-use Rattle.json_base.specs.JsonMember.{member_of}
 use Rattle.json_base.specs.declared.path.Member.{Member}
 use Rattle.json_base.specs.declared.path.Member.TheVariants as member
-use Rattle.json_query.specs.QueryForm.{form_of, literal_of, op_name, operand_count}
+use Rattle.json_base.specs.declared.path.Step.TheVariants as step
+use Rattle.json_base.specs.declared.fault.JsonFaultKind.TheVariants.{WrongMember, BadNumber}
+use Rattle.json_query.specs.Reading.{JsonReading, faulty, wanted, chain, mapped, both, under, string_of, array_of, required, nested}
+use Rattle.json_query.specs.QueryForm.{form_of, literal_of, op_named, operand_count}
+use Rattle.json_query.specs.declared.form.Form.{Form}
 use Rattle.json_query.specs.declared.form.Form.TheVariants as form
 
--- The member of the object is this text.
-abbrev pub HasText : Member → Data → List ℕ → Type 0
-HasText m d bytes = option_and_then as_str (member_of m d) ≡ Some bytes
+abbrev pub operator_of : Data → JsonReading Op
+operator_of d = chain (required member.Op string_of d) (λ name. under (step.Member member.Op) (wanted WrongMember (op_named name)))
 
--- The object of an operator, with as many arguments as it has operands.
-pub record IsOperator (d : Data) (o : Op) (args : Items) : Type 0 where
-  pub formed : form_of d ≡ Some form.Op
-  pub name : HasText member.Op d (op_name o)
-  pub listed : option_and_then as_array (member_of member.Args d) ≡ Some args
-  pub count : items_len args ≡ operand_count o
+-- The operator, if there are as many arguments as it has operands.
+abbrev pub with_count : Op → Items → JsonReading Op
+with_count o args = if items_len args == operand_count o then Ok o else faulty WrongMember (step.Member member.Args ∷ [])
 
-abbrev mutual
-  pub ReadsExpr : Data → Tree (List ℕ) → Type 0
-  ReadsExpr d (column name) = (form_of d ≡ Some form.Column) × HasText member.Column d name
-  ReadsExpr d (int z) = (form_of d ≡ Some form.Int) × (option_and_then literal_of (member_of member.Int d) ≡ Some z)
-  ReadsExpr d (text bytes) = (form_of d ≡ Some form.Text) × HasText member.Text d bytes
-  ReadsExpr d (op o operands) = (args : Items) × IsOperator d o args × ReadsAll args operands
+abbrev pub with_arguments : Data → JsonReading Op
+with_arguments d = chain (both with_count (operator_of d) (required member.Args array_of d)) (λ operator. operator)
 
-  -- The items one by one.
-  pub ReadsAll : Items → Trees (List ℕ) → Type 0
-  ReadsAll ds none = ds ≡ no_items
-  ReadsAll ds (one t ts) = (d : Data) × (more : Items) × (ds ≡ item d more) × ReadsExpr d t × ReadsAll more ts
+abbrev pub formed : Form → Data → JsonReading (List (Tree (List ℕ))) → JsonReading (Tree (List ℕ))
+formed form.Column d operands = mapped column (required member.Column string_of d)
+formed form.Int d operands = mapped int (required member.Int (λ e. wanted BadNumber (literal_of e)) d)
+formed form.Text d operands = mapped text (required member.Text string_of d)
+formed form.Op d operands = both (λ o ts. op o (trees ts)) (with_arguments d) operands
+
+-- What an object spells, and what the operands do.
+abbrev pub expr_with : Data → JsonReading (List (Tree (List ℕ))) → JsonReading (Tree (List ℕ))
+expr_with d operands = chain (wanted WrongMember (form_of d)) (λ form. formed form d operands)
+
+abbrev pub expr : Data → JsonReading (Tree (List ℕ))
+expr d = expr_with d (nested member.Args expr_with d)
 
 -- An expression as a plain value, its columns called by the bytes of their names.
 abbrev pub named_tree : Expr (String Global) → Tree (List ℕ)

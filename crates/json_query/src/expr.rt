@@ -1,39 +1,32 @@
 //! The objects of expressions.
 
-ghost use Rattle.std.specs.Prelude.{◌≡◌, Some, IfOk, IfErr, option_and_then, map, string_bytes};
+ghost use Rattle.std.specs.Prelude.{◌≡◌, Some, Ok, IfOk, IfErr, option_and_then, map};
+ghost use Rattle.json_base.specs.Find.{as_array};
 ghost use Rattle.json_base.specs.View.{view, items_view};
 ghost use Rattle.json_base.specs.FaultAt.{Tells};
-ghost use Rattle.json_base.specs.JsonMember.{EachFault, IsObject, ReadsEach, member_of};
+ghost use Rattle.json_base.specs.JsonMember.{IsObject, member_of};
 ghost use Rattle.json_base.specs.declared.path.Member.TheVariants as member;
-ghost use Rattle.json_query.specs.QueryExpr.{HasText, IsOperator, ReadsExpr, named_tree};
-ghost use Rattle.json_query.specs.QueryExprFault.{ExprFault};
-ghost use Rattle.json_query.specs.QueryForm.{form_of, literal_of, op_name};
+ghost use Rattle.json_base.specs.declared.fault.JsonFaultKind.TheVariants.{BadNumber};
+ghost use Rattle.json_query.specs.Reading.{MayReport, each_item, nested, required, wanted};
+ghost use Rattle.json_query.specs.QueryExpr.{expr, expr_with, formed, named_tree, operator_of, with_arguments};
+ghost use Rattle.json_query.specs.QueryForm.{literal_of};
+ghost use Rattle.json_query.specs.declared.form.Form.TheVariants as form;
 
 use crate::form::{Form, form_of, literal, op_of, operand_count};
-use json_base::member::{array_member, check_object, owned, push, required, text_member, unlike};
+use crate::text::read_text;
+use json_base::member::{array_member, push, required, text_member, unlike};
 use json_base::{JsonFault, JsonFaultKind, Member, Step, Value};
 use query::{Expr, Op};
 use std::alloc::Global;
 
-/// The name of a column.
-#[tactic(auto, using(crate::proofs::ExprFaults::reported))]
-fn read_column(alloc: Global, object: &Value) -> Result<String, JsonFault>
-    requires object { IsObject (view object.now) }
-    requires form { form_of (view object.now) ≡ Some Form.Column }
-    ensures ok { IfOk result (λ name. HasText member.Column (view object.now) (string_bytes name)) }
-    ensures err { IfErr result (Tells (ExprFault (view object.now))) }
-{
-    owned(alloc, text_member(alloc, object, Member::Column)?)
-}
-
 /// A whole number.
-#[tactic(auto, using(crate::proofs::ExprFaults::reported))]
+#[tactic(auto, using(crate::proofs::Readings::reading))]
 fn read_int(alloc: Global, object: &Value) -> Result<i128, JsonFault>
-    requires object { IsObject (view object.now) }
-    requires form { form_of (view object.now) ≡ Some Form.Int }
+    requires { IsObject (view object.now) }
     ensures ok { IfOk result (λ number.
-        option_and_then literal_of (member_of member.Int (view object.now)) ≡ Some number) }
-    ensures err { IfErr result (Tells (ExprFault (view object.now))) }
+        required member.Int (λ d. wanted BadNumber (literal_of d)) (view object.now) ≡ Ok number) }
+    ensures err { IfErr result (Tells (MayReport
+        (required member.Int (λ d. wanted BadNumber (literal_of d)) (view object.now)))) }
 {
     match literal(required(alloc, object, Member::Int)?) {
         Some(number) => Ok(number),
@@ -44,24 +37,12 @@ fn read_int(alloc: Global, object: &Value) -> Result<i128, JsonFault>
     }
 }
 
-/// A text.
-#[tactic(auto, using(crate::proofs::ExprFaults::reported))]
-fn read_text(alloc: Global, object: &Value) -> Result<String, JsonFault>
-    requires object { IsObject (view object.now) }
-    requires form { form_of (view object.now) ≡ Some Form.Text }
-    ensures ok { IfOk result (λ text. HasText member.Text (view object.now) (string_bytes text)) }
-    ensures err { IfErr result (Tells (ExprFault (view object.now))) }
-{
-    owned(alloc, text_member(alloc, object, Member::Text)?)
-}
-
 /// An operator's name.
-#[tactic(auto, using(crate::proofs::ExprFaults::reported))]
+#[tactic(auto, using(crate::proofs::Readings::reading))]
 fn read_op(alloc: Global, object: &Value) -> Result<Op, JsonFault>
-    requires object { IsObject (view object.now) }
-    requires form { form_of (view object.now) ≡ Some Form.Op }
-    ensures ok { IfOk result (λ op. HasText member.Op (view object.now) (op_name op)) }
-    ensures err { IfErr result (Tells (ExprFault (view object.now))) }
+    requires { IsObject (view object.now) }
+    ensures ok { IfOk result (λ op. operator_of (view object.now) ≡ Ok op) }
+    ensures err { IfErr result (Tells (MayReport (operator_of (view object.now)))) }
 {
     match op_of(text_member(alloc, object, Member::Op)?) {
         Some(op) => Ok(op),
@@ -70,13 +51,14 @@ fn read_op(alloc: Global, object: &Value) -> Result<Op, JsonFault>
 }
 
 /// The arguments of an operator, as many as it has operands.
-#[tactic(auto, using(crate::proofs::ExprFaults::reported))]
+#[tactic(auto, using(crate::proofs::Readings::reading, crate::proofs::QueryReadings::expressions))]
 fn arguments(alloc: Global, object: &Value, op: Op) -> Result<&[Value], JsonFault>
     requires object { IsObject (view object.now) }
-    requires form { form_of (view object.now) ≡ Some Form.Op }
-    requires name { HasText member.Op (view object.now) (op_name op) }
-    ensures ok { IfOk result (λ args. IsOperator (view object.now) op (items_view args.now)) }
-    ensures err { IfErr result (Tells (ExprFault (view object.now))) }
+    requires name { operator_of (view object.now) ≡ Ok op }
+    ensures listed { IfOk result (λ args.
+        option_and_then as_array (member_of member.Args (view object.now)) ≡ Some (items_view args.now)) }
+    ensures ok { IfOk result (λ args. with_arguments (view object.now) ≡ Ok op) }
+    ensures err { IfErr result (Tells (MayReport (with_arguments (view object.now)))) }
 {
     let args = array_member(alloc, object, Member::Args)?;
     if args.len() == operand_count(op) {
@@ -88,16 +70,15 @@ fn arguments(alloc: Global, object: &Value, op: Op) -> Result<&[Value], JsonFaul
 
 /// The expression that a value spells. It goes down as deep as the value is.
 #[cycle(exprs)]
-#[tactic(auto, using(crate::proofs::ExprFaults::reported))]
+#[tactic(auto, using(crate::proofs::Readings::reading, crate::proofs::QueryReadings::expressions))]
 pub(crate) fn read_expr(alloc: Global, value: &Value) -> Result<Expr<String>, JsonFault>
-    ensures ok { IfOk result (λ e. ReadsExpr (view value.now) (named_tree e)) }
-    ensures err { IfErr result (Tells (ExprFault (view value.now))) }
+    ensures ok { IfOk result (λ e. expr (view value.now) ≡ Ok (named_tree e)) }
+    ensures err { IfErr result (Tells (MayReport (expr (view value.now)))) }
 {
-    check_object(alloc, value)?;
     match form_of(value) {
-        Some(Form::Column) => Ok(Expr::Column(read_column(alloc, value)?)),
+        Some(Form::Column) => Ok(Expr::Column(read_text(alloc, value, Member::Column)?)),
         Some(Form::Int) => Ok(Expr::Int(read_int(alloc, value)?)),
-        Some(Form::Text) => Ok(Expr::Text(read_text(alloc, value)?)),
+        Some(Form::Text) => Ok(Expr::Text(read_text(alloc, value, Member::Text)?)),
         Some(Form::Op) => read_operator(alloc, value),
         None => Err(JsonFault::at(alloc, JsonFaultKind::WrongMember, &[])),
     }
@@ -105,12 +86,13 @@ pub(crate) fn read_expr(alloc: Global, value: &Value) -> Result<Expr<String>, Js
 
 /// An operator and its operands.
 #[cycle(exprs)]
-#[tactic(auto, using(crate::proofs::ExprFaults::reported))]
+#[tactic(auto, using(crate::proofs::Readings::reading, crate::proofs::QueryReadings::expressions))]
 fn read_operator(alloc: Global, object: &Value) -> Result<Expr<String>, JsonFault>
-    requires object { IsObject (view object.now) }
-    requires form { form_of (view object.now) ≡ Some Form.Op }
-    ensures ok { IfOk result (λ e. ReadsExpr (view object.now) (named_tree e)) }
-    ensures err { IfErr result (Tells (ExprFault (view object.now))) }
+    requires { IsObject (view object.now) }
+    ensures ok { IfOk result (λ e.
+        formed form.Op (view object.now) (nested member.Args expr_with (view object.now)) ≡ Ok (named_tree e)) }
+    ensures err { IfErr result (Tells (MayReport
+        (formed form.Op (view object.now) (nested member.Args expr_with (view object.now))))) }
 {
     let op = read_op(alloc, object)?;
     let args = arguments(alloc, object, op)?;
@@ -122,17 +104,17 @@ fn read_operator(alloc: Global, object: &Value) -> Result<Expr<String>, JsonFaul
 
 /// The expressions that the values spell.
 #[cycle(exprs)]
-#[tactic(auto, using(crate::proofs::ExprFaults::reported))]
+#[tactic(auto, using(crate::proofs::Readings::loops))]
 fn read_all(alloc: Global, values: &[Value]) -> Result<Vec<Expr<String>>, JsonFault>
-    ensures ok { IfOk result (λ exprs.
-        ReadsEach ReadsExpr (items_view values.now) (map named_tree exprs.items)) }
-    ensures err { IfErr result (Tells (EachFault ExprFault (items_view values.now))) }
+    ensures ok { IfOk result (λ exprs. each_item expr (items_view values.now) ≡ Ok (map named_tree exprs.items)) }
+    ensures err { IfErr result (Tells (MayReport (each_item expr (items_view values.now)))) }
 {
     let mut exprs = Vec::new(alloc);
     for (index, value) in values.iter().enumerate() {
-        let read = read_expr(alloc, value);
-        let expr = read.map_err(|fault| fault.under(alloc, Step::Item(index)))?;
-        push(alloc, &mut exprs, expr)?;
+        match read_expr(alloc, value) {
+            Ok(expr) => push(alloc, &mut exprs, expr)?,
+            Err(fault) => return Err(fault.under(alloc, Step::Item(index))),
+        }
     }
     Ok(exprs)
 }

@@ -1,9 +1,8 @@
 //! What an expression's object is.
 
-ghost use Rattle.std.specs.Prelude.{◌≡◌, ◌≢◌, IfSome, IfNone};
-ghost use Rattle.query.specs.declared.expr.Op as op;
+ghost use Rattle.std.specs.Prelude.{◌≡◌};
 ghost use Rattle.json_base.specs.View.{view};
-ghost use Rattle.json_query.specs.QueryForm.{form_of, has, literal_of, op_name, operand_count};
+ghost use Rattle.json_query.specs.QueryForm.{form_of, has, literal_of, op_named, operand_count};
 
 use arrays::{INT64, IntType, Width};
 use json_base::number::integer;
@@ -59,8 +58,7 @@ pub(crate) fn literal(value: &Value) -> Option<i128>
 
 /// The operator of the name.
 pub(crate) fn op_of(name: &str) -> Option<Op>
-    ensures some { IfSome result (λ op. name.now ≡ op_name op) }
-    ensures none { IfNone result ((op : op.Op) → name.now ≢ op_name op) }
+    ensures { result ≡ op_named name.now }
 {
     match name {
         "add" => Some(Op::Add),

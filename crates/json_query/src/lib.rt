@@ -7,5 +7,6 @@ mod form;
 pub mod laws;
 mod lists;
 pub mod query_text;
+mod text;
 
 pub use query_text::read_query;

@@ -1,10 +1,11 @@
-ghost use Rattle.std.specs.Prelude.{Some, IfOk, IfErr, option_map};
-ghost use Rattle.query.specs.Resolved.{named};
+ghost use Rattle.std.specs.Prelude.{◌≡◌, Ok, IfOk, IfErr, option_map, string_bytes};
+ghost use Rattle.query.specs.Resolved.{named, renamed};
+ghost use Rattle.query.specs.Tree.{tree_of};
 ghost use Rattle.json_base.specs.View.{view};
 ghost use Rattle.json_base.specs.FaultAt.{Tells};
-ghost use Rattle.json_query.specs.QueryDocument.{ReadsFilter, ReadsQuery, ReadsQueryText};
-ghost use Rattle.json_query.specs.QueryDocumentFault.{QueryObjectFault, QueryBytesFault};
-ghost use Rattle.json_query.specs.QueryExpr.{named_tree};
+ghost use Rattle.json_query.specs.Reading.{MayReport};
+ghost use Rattle.json_query.specs.QueryDocument.{ReadsQueryText, filter, query_of};
+ghost use Rattle.json_query.specs.QueryDocumentFault.{QueryBytesFault};
 
 use crate::expr::read_expr;
 use crate::lists::{read_aggs, read_by};
@@ -15,10 +16,11 @@ use query::{Expr, QueryText};
 use std::alloc::Global;
 
 /// The filter, none where it is absent or null.
-#[tactic(auto, using(crate::proofs::QueryObjectFaults::filter_faults))]
+#[tactic(auto, using(crate::proofs::Readings::reading))]
 fn read_filter(alloc: Global, object: &Value) -> Result<Option<Expr<String>>, JsonFault>
-    ensures ok { IfOk result (λ filter. ReadsFilter (view object.now) (option_map named_tree filter)) }
-    ensures err { IfErr result (Tells (QueryObjectFault (view object.now))) }
+    ensures ok { IfOk result (λ read.
+        filter (view object.now) ≡ Ok (option_map (renamed string_bytes) (option_map tree_of read))) }
+    ensures err { IfErr result (Tells (MayReport (filter (view object.now)))) }
 {
     let Some(found) = object.get(Member::Filter.name()) else {
         return Ok(None);
@@ -33,10 +35,10 @@ fn read_filter(alloc: Global, object: &Value) -> Result<Option<Expr<String>>, Js
 }
 
 /// The query of a document.
-#[tactic(auto, using(crate::proofs::QueryObjectFaults::query_faults))]
+#[tactic(auto, using(crate::proofs::Readings::reading))]
 fn read_document(alloc: Global, document: &Value) -> Result<QueryText, JsonFault>
-    ensures ok { IfOk result (λ query. ReadsQuery (view document.now) (named query)) }
-    ensures err { IfErr result (Tells (QueryObjectFault (view document.now))) }
+    ensures ok { IfOk result (λ read. query_of (view document.now) ≡ Ok (named read)) }
+    ensures err { IfErr result (Tells (MayReport (query_of (view document.now)))) }
 {
     check_object(alloc, document)?;
     let filter = read_filter(alloc, document)?;
@@ -48,7 +50,7 @@ fn read_document(alloc: Global, document: &Value) -> Result<QueryText, JsonFault
 /// Reads a query from its JSON text.
 ///
 /// Where several faults stand, which of them is reported is open. It goes down as deep as the text is nested, 127 at most.
-#[tactic(auto, using(crate::proofs::QueryObjectFaults::bytes_faults))]
+#[tactic(auto, using(crate::proofs::QueryReadings::texts))]
 pub fn read_query(alloc: Global, bytes: &[u8]) -> Result<QueryText, JsonFault>
     // What is read is what the bytes say.
     ensures ok { IfOk result (λ query. ReadsQueryText bytes.now (named query)) }

@@ -2,11 +2,11 @@
 
 ghost use Rattle.std.specs.Prelude.{◌≤◌, length};
 
-use arrow_json::Value;
 use json_scan::{
     Literal, Miss, find_member, pass_number, pass_value, read_integer, read_integers, read_literal,
     read_text, read_value,
 };
+use serde_json::Value;
 use std::alloc::Global;
 use std::test::Fail;
 

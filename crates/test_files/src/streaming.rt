@@ -3,11 +3,12 @@
 use crate::lawful::expect_read;
 use crate::scanning::is_unread;
 use arrays::{Array, Field, File, RecordBatch, Schema, View, ViewType};
-use arrow_json::{Value, read_field, read_file};
+use arrow_json::{read_field, read_file};
 use json_file::read_batches;
 use json_read::{Coding, FileHead, read_head};
 use json_scan::{Miss, Placed, find_member};
 use json_stream::{read_batch, read_column, read_columns};
+use serde_json::Value;
 use std::alloc::Global;
 use std::process::Abort;
 use std::sync::Arc;

@@ -1,13 +1,13 @@
-use Rattle.std.proofs.Common.{◌+◌, ◌*◌, map}
+use Rattle.std.proofs.Common.{◌≡◌, ◌+◌, ◌*◌, map, Ok}
 use Rattle.json_base.specs.Data.{depth, items_depth}
 use Rattle.json_base.specs.View.{view, items_view}
 use Rattle.json_base.specs.JsonMember.{ReadsFirst}
-use Rattle.json_query.specs.QueryExpr.{ReadsExpr, named_tree}
+use Rattle.json_query.specs.QueryExpr.{expr, named_tree}
 use Rattle.json_query.proofs.expr.+exprs.Given as goal
 
 -- the expressions so far are read
 abbrev pub invariant-read_all-loop-index : goal.invariant-read_all-loop-index
-invariant-read_all-loop-index l = ReadsFirst ReadsExpr (items_view l.values) l.index-counter (map named_tree l.exprs.items)
+invariant-read_all-loop-index l = ReadsFirst (λ d x. expr d ≡ Ok x) (items_view l.values) l.index (map named_tree l.exprs.items)
 
 -- three calls go one level down
 abbrev pub decreases-read_expr : goal.decreases-read_expr

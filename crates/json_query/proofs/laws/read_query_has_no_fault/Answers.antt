@@ -1,4 +1,4 @@
-use Rattle.json_query.proofs.QueryLaws.{bytes_law}
+use Rattle.json_query.proofs.QueryReadings.{bytes_law}
 use Rattle.json_query.proofs.laws.read_query_has_no_fault.Goals as goal
 
 pub returns : goal.returns

@@ -1,9 +1,9 @@
-use Rattle.std.proofs.Common.{map, string_bytes}
+use Rattle.std.proofs.Common.{◌≡◌, map, Ok, string_bytes}
 use Rattle.json_base.specs.View.{items_view}
 use Rattle.json_base.specs.JsonMember.{ReadsFirst}
-use Rattle.json_query.specs.QueryDocument.{ReadsName}
+use Rattle.json_query.specs.Reading.{string_of}
 use Rattle.json_query.proofs.lists.read_names.Given as goal
 
 -- the names so far are read
 abbrev pub invariant-loop-index : goal.invariant-loop-index
-invariant-loop-index l = ReadsFirst ReadsName (items_view l.values) l.index-counter (map string_bytes l.names.items)
+invariant-loop-index l = ReadsFirst (λ d x. string_of d ≡ Ok x) (items_view l.values) l.index (map string_bytes l.names.items)

@@ -1,12 +1,13 @@
-use Rattle.std.proofs.Common.{◌≡◌, Some, rules}
+use Rattle.std.proofs.Common.{◌≡◌, Some, None, rules}
+use Rattle.json_base.specs.Find.{as_null}
 use Rattle.json_base.specs.View.{view}
 use Rattle.json_base.specs.JsonMember.{member_of}
 use Rattle.json_base.specs.declared.path.Member.TheVariants as member
-use Rattle.json_query.specs.QueryExpr.{named_tree}
-use Rattle.json_query.proofs.QueryObjectFaults.{filter_found}
+use Rattle.json_query.proofs.QueryReadings.{filter_told}
 use Rattle.json_query.proofs.query_text.read_filter.Goals as goal
 
-pub returns-in-Ok-clause-ok : goal.returns-in-Ok-clause-ok
-returns-in-Ok-clause-ok c =
+pub returns-in-Err-clause-err : goal.returns-in-Err-clause-err
+returns-in-Err-clause-err c =
     let at : member_of member.Filter (view c.args.object.now) ≡ Some (view c.in-Some.found.now) = search rules in
-    filter_found (view c.args.object.now) (view c.in-Some.found.now) (named_tree c.in-Ok.expr) at c.in-Ok.ensures.ok
+    let some : as_null (view c.in-Some.found.now) ≡ None = search rules in
+    filter_told (view c.args.object.now) (view c.in-Some.found.now) _ _ at some c.in-Err.ensures.err c.under.ensures
