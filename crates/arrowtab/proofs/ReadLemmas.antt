@@ -15,7 +15,8 @@ use Rattle.arrow_json.proofs.Found.{Some_inj}
 use Rattle.arrow_json.specs.JsonTable.{FileData}
 use Rattle.arrow_json.specs.JsonFault.{JsonFault}
 use Rattle.reports.proofs.ParseLemmas.{texts_under, zip_more}
-use Rattle.arrowtab.specs.Explained.{ExplainsFiles, IsOfFirst}
+use Rattle.arrowtab.specs.Explained.{IsFileUnread, not_read, source_failed}
+use Rattle.arrowtab.specs.OrMemory.{OrMemory}
 use Rattle.reports.specs.Parsed.{AddsFiles, IsFirstUnread, IsTextOf, StopsParsing}
 use Rattle.arrowtab.specs.Run.{AreRead, Inputs}
 use Rattle.reports.specs.declared.run_fault.FileFault.TheVariants.{CannotRead, Json, Refused}
@@ -236,51 +237,41 @@ module _ {S : Type 0} where
             fails = reported_stands p.input u.text f p.tells u.stands;
           }
 
-      pub parsing_explained : (after : List ℕ) (fault : RunFault) → StopsParsing texts (length files) fault → ExplainsFiles (map remaining olds) (map failures olds) after fault
-      parsing_explained after NoMemory why = tt
-      parsing_explained after (OfFile file CannotRead) why = absurd why
-      parsing_explained after (OfFile file (Json f)) why =
-          let u = unread file f why in
-          record { input = u.input; of_file = ap (λ l. slice_get l file) u.split ∙ subst (λ k. slice_get (u.fore ++ u.input ∷ u.aft) k ≡ Some u.input) (sym u.place) (next_of u.fore u.input u.aft); stands = u.fails }
-      parsing_explained after (OfFile file (Refused number refusal)) why = absurd why
-      parsing_explained after (QueryUnread f) why = absurd why
-      parsing_explained after (QueryRefused f) why = absurd why
-      parsing_explained after (OfColumn f) why = absurd why
-
-      pub parsing_first : (after : List ℕ) (fault : RunFault) → ((i : ℕ) → i < n → slice_get after i ≡ slice_get (map failures olds) i) → StopsParsing texts (length files) fault
-          → IsOfFirst (map remaining olds) (map failures olds) after fault
-      parsing_first after NoMemory quiet why = tt
-      parsing_first after (OfFile file CannotRead) quiet why = absurd why
-      parsing_first after (OfFile file (Json f)) quiet why =
+      pub parsing_stops : (after : List ℕ) (fault : RunFault) → ((i : ℕ) → i < n → slice_get after i ≡ slice_get (map failures olds) i) → StopsParsing texts (length files) fault
+          → OrMemory (IsFileUnread (map remaining olds) (map failures olds) after) fault
+      parsing_stops after NoMemory quiet why = inl refl
+      parsing_stops after (OfFile file CannotRead) quiet why = absurd why
+      parsing_stops after (OfFile file (Json f)) quiet why =
           let u = unread file f why in
           let front : take file (map remaining olds) ≡ u.fore = ap (take file) u.split ∙ subst (λ k. take k (u.fore ++ u.input ∷ u.aft) ≡ u.fore) (sym u.place) (front_of u.fore (u.input ∷ u.aft)) in
-          ((λ i h. quiet i (omega (arith, h, u.within))), (u.data_before, subst (λ inputs. AreRead inputs u.data_before) (sym front) u.read_before))
-      parsing_first after (OfFile file (Refused number refusal)) quiet why = absurd why
-      parsing_first after (QueryUnread f) quiet why = tt
-      parsing_first after (QueryRefused f) quiet why = tt
-      parsing_first after (OfColumn f) quiet why = tt
+          inr (not_read file f
+          (record { quiet = λ i h. quiet i (omega (arith, h, u.within)); files = u.data_before; read = subst (λ inputs. AreRead inputs u.data_before) (sym front) u.read_before })
+          refl
+          (record { input = u.input; of_file = ap (λ l. slice_get l file) u.split ∙ subst (λ k. slice_get (u.fore ++ u.input ∷ u.aft) k ≡ Some u.input) (sym u.place) (next_of u.fore u.input u.aft); stands = u.fails }))
+      parsing_stops after (OfFile file (Refused number refusal)) quiet why = absurd why
+      parsing_stops after (QueryUnread f) quiet why = absurd why
+      parsing_stops after (QueryRefused f) quiet why = absurd why
+      parsing_stops after (OfColumn f) quiet why = absurd why
 
       -- ---- a source that isn't read, of number n: the files before it are
 
-      pub source_explained : (d new : S) (fault : SourceFault) (reported : RunFault) → n < length olds → (fault ≡ ReadFailed → failures (get_or sources n d) < failures new)
-          → (reported ≡ NoMemory) ⊎ ((fault ≡ ReadFailed) × (reported ≡ OfFile n CannotRead)) → ExplainsFiles (map remaining olds) (map failures olds) (map failures (set sources n new)) reported
-      source_explained d new fault reported within counted (inl is) = subst (ExplainsFiles (map remaining olds) (map failures olds) (map failures (set sources n new))) (sym is) tt
-      source_explained d new fault reported within counted (inr is) = subst (ExplainsFiles (map remaining olds) (map failures olds) (map failures (set sources n new))) (sym is.1) (record {
-        failed = failures (get_or sources n d);
-        failures = failures new;
-        first = shown_at failures olds n _ (first_at d within);
-        last = shown_at failures (set sources n new) n new (set_here sources n new (omega (arith, within, so_far.same)));
-        more = counted is.0;
-      })
-
-      pub source_first : (new : S) (fault : SourceFault) (reported : RunFault) (more : List File) → AddsFiles texts files more
-          → (reported ≡ NoMemory) ⊎ ((fault ≡ ReadFailed) × (reported ≡ OfFile n CannotRead)) → IsOfFirst (map remaining olds) (map failures olds) (map failures (set sources n new)) reported
-      source_first new fault reported more adds (inl is) = subst (IsOfFirst (map remaining olds) (map failures olds) (map failures (set sources n new))) (sym is) tt
-      source_first new fault reported more adds (inr is) =
+      pub source_stops : (d new : S) (fault : SourceFault) (reported : RunFault) (more : List File) → n < length olds → (fault ≡ ReadFailed → failures (get_or sources n d) < failures new)
+          → AddsFiles texts files more → (reported ≡ NoMemory) ⊎ ((fault ≡ ReadFailed) × (reported ≡ OfFile n CannotRead))
+          → OrMemory (IsFileUnread (map remaining olds) (map failures olds) (map failures (set sources n new))) reported
+      source_stops d new fault reported more within counted adds (inl is) = inl is
+      source_stops d new fault reported more within counted adds (inr is) =
           let fore = so_far.front ++ so_far.back in
           let front : take n (map remaining olds) ≡ fore = ap (take n) whole ∙ subst (λ k. take k (fore ++ so_far.rest) ≡ fore) (sym long) (front_of fore so_far.rest) in
-          subst (IsOfFirst (map remaining olds) (map failures olds) (map failures (set sources n new))) (sym is.1)
-          ((λ i h. still i new h), (map file_of more, subst (λ inputs. AreRead inputs (map file_of more)) (sym front) (all_read more adds)))
+          inr (source_failed n
+          (record { quiet = λ i h. still i new h; files = map file_of more; read = subst (λ inputs. AreRead inputs (map file_of more)) (sym front) (all_read more adds) })
+          is.1
+          (record {
+            failed = failures (get_or sources n d);
+            failures = failures new;
+            first = shown_at failures olds n _ (first_at d within);
+            last = shown_at failures (set sources n new) n new (set_here sources n new (omega (arith, within, so_far.same)));
+            more = counted is.0;
+          }))
 
       -- all of them were read
       pub ReadSoFar-whole : (new : List File) → AddsFiles texts files new → length olds ≤ n → AreRead (map remaining olds) (map file_of new)

@@ -1,5 +1,5 @@
 -- What workers loaded and what stopped them, from the pairs that each added.
-use Rattle.std.proofs.Common.{◌≡◌, ◌≢◌, ◌∙◌, IfOk, IfErr, Result, Ok, Err, ℕ, ◌%◌, ◌<◌, List, [], ◌∷◌, ◌++◌, Option, None, Some, option_map, map, take, slice_get, ap, sym, subst}
+use Rattle.std.proofs.Common.{◌≡◌, ◌≢◌, ◌∙◌, ℕ, ◌%◌, ◌<◌, List, [], ◌∷◌, ◌++◌, None, Some, option_map, map, take, slice_get, ap, sym, subst}
 use Rattle.std.proofs.lemmas.List.{map-append, take-map}
 use Rattle.std.proofs.lemmas.Option.{slice_get-map}
 use Rattle.std.proofs.lemmas.Simd.{map-map}
@@ -9,24 +9,16 @@ use mathlib.Core.List.{IsPrefix}
 use Rattle.arrays.specs.Batch.{Batch, Table, rows_of}
 use Rattle.arrays.specs.File.{File}
 use Rattle.arrays.specs.Shape.{FieldShape}
-use Rattle.loads.specs.Loaded.{batches_of_files, fields_for, pairs_of}
+use Rattle.loads.specs.Loaded.{batches_of_files, pairs_of}
 use Rattle.loads.specs.Plan.{planned}
 use Rattle.shared.specs.Balance.{IsOfWorkers}
-use Rattle.table.specs.QueryFault.{QueryFault}
 use Rattle.table.specs.Cause.{IsLegal, batch_cause, difference}
-use Rattle.table.specs.Contents.{Contents}
 use Rattle.table.specs.History.{History, of}
 use Rattle.table.specs.declared.refusal.Refusal.{Refusal}
-use Rattle.arrowtab.specs.Column.{fields_with}
 use Rattle.arrowtab.specs.Loaded.{IsLoaded, IsStopped, added_by}
 use Rattle.reports.specs.FileBatches.{FileBatch, batch_tables}
-use Rattle.arrowtab.specs.Wanted.{IsUnprinted, PrintsWanted, RefusesWanted}
-use Rattle.arrowtab.specs.Worked.{Holds, IsRefusedOver, Shows, StopsLoading, StopsWanted, listed}
+use Rattle.arrowtab.specs.Worked.{listed}
 use Rattle.reports.specs.FileBatches.{batch_of}
-use Rattle.reports.specs.declared.run_fault.RunFault.{RunFault}
-use Rattle.reports.specs.declared.run_fault.RunFault.TheVariants.{NoMemory, OfColumn, OfFile, QueryUnread, QueryRefused}
-use Rattle.arrowtab.specs.declared.wanted.Wanted.{Wanted}
-use Rattle.arrowtab.specs.declared.wanted.Wanted.TheVariants as wanted
 use Rattle.loads.proofs.PlanLemmas.{all_from, map_begun, planned-map}
 
 -- ---- batches as they are seen
@@ -100,58 +92,3 @@ stopped_of workers files fields file number refusal bs b h there inside known ow
   legal = legal;
   stands = stands;
 }
-
--- ---- what is printed of a table
-
-module _ (wanted : Wanted) (workers : ℕ) (files : List File) (column : Option FieldShape) where
-  module _ (v : Contents) (holds : Holds workers files column v) where
-    shows_present : (text : List ℕ) → PrintsWanted wanted workers v.fields v.history text → Shows wanted workers files column text
-    shows_present text prints = record {
-      allowed = holds.allowed;
-      history = holds.history;
-      loaded = holds.loaded;
-      prints =
-          subst (λ (h : History). PrintsWanted wanted workers (fields_with column (fields_for files)) h text) holds.history_is
-          (subst (λ (fs : List FieldShape). PrintsWanted wanted workers fs v.history text) holds.fields prints);
-    }
-
-    refused_present : (fault : QueryFault) → RefusesWanted wanted v.fields v.history fault → IsRefusedOver wanted workers files column fault
-    refused_present fault refused = record {
-      allowed = holds.allowed;
-      history = holds.history;
-      loaded = holds.loaded;
-      refused =
-          subst (λ (h : History). RefusesWanted wanted (fields_with column (fields_for files)) h fault) holds.history_is
-          (subst (λ (fs : List FieldShape). RefusesWanted wanted fs v.history fault) holds.fields refused);
-    }
-
-  -- what stops the loading stops what is wanted
-  pub loading_stops : (fault : RunFault) → StopsLoading workers files column fault → StopsWanted wanted workers files column fault
-  loading_stops NoMemory stops = tt
-  loading_stops (OfFile file fault) stops = stops
-  loading_stops (QueryUnread fault) stops = absurd stops
-  loading_stops (QueryRefused fault) stops = absurd stops
-  loading_stops (OfColumn fault) stops = stops
-
-unprinted_present : (wanted : Wanted) (workers : ℕ) (files : List File) (column : Option FieldShape) (v : Contents) (fault : RunFault) → Holds workers files column v
-    → IsUnprinted wanted v.fields v.history fault → StopsWanted wanted workers files column fault
-unprinted_present wanted.Stats workers files column v fault holds why = subst (StopsWanted wanted.Stats workers files column) (sym why) tt
-unprinted_present wanted.Schema workers files column v fault holds why = subst (StopsWanted wanted.Schema workers files column) (sym why) tt
-unprinted_present wanted.Nothing workers files column v fault holds why = subst (StopsWanted wanted.Nothing workers files column) (sym why) tt
-unprinted_present (wanted.Head count) workers files column v fault holds why = subst (StopsWanted (wanted.Head count) workers files column) (sym why) tt
-unprinted_present wanted.Export workers files column v fault holds why = subst (StopsWanted wanted.Export workers files column) (sym why) tt
-unprinted_present (wanted.Groups query output) workers files column v NoMemory holds why = tt
-unprinted_present (wanted.Groups query output) workers files column v (OfFile file fault) holds why = absurd why
-unprinted_present (wanted.Groups query output) workers files column v (QueryUnread fault) holds why = absurd why
-unprinted_present (wanted.Groups query output) workers files column v (QueryRefused fault) holds why = refused_present (wanted.Groups query output) workers files column v holds fault why
-unprinted_present (wanted.Groups query output) workers files column v (OfColumn fault) holds why = absurd why
-
-pub output_shows : {A : Type 0} (wanted : Wanted) (workers : ℕ) (files : List File) (column : Option FieldShape) (v : Contents) (r : Result A RunFault) (text : A → List ℕ)
-    → Holds workers files column v → IfOk r (λ t. PrintsWanted wanted workers v.fields v.history (text t)) → IfOk r (λ t. Shows wanted workers files column (text t))
-output_shows wanted workers files column v (Ok t) text holds prints = shows_present wanted workers files column v holds (text t) prints
-output_shows wanted workers files column v (Err fault) text holds prints = tt
-
-pub output_stops : {A : Type 0} (wanted : Wanted) (workers : ℕ) (files : List File) (column : Option FieldShape) (v : Contents) (r : Result A RunFault) → Holds workers files column v
-    → IfErr r (IsUnprinted wanted v.fields v.history) → IfErr r (StopsWanted wanted workers files column)
-output_stops wanted workers files column v (Ok t) holds why = tt
-output_stops wanted workers files column v (Err fault) holds why = unprinted_present wanted workers files column v fault holds why

@@ -15,6 +15,7 @@ pub mod Output
 pub mod Loaded
 pub mod Column
 pub mod TookFault
+pub mod OrMemory
 pub mod Run
 pub mod QueryFile
 pub mod Explained

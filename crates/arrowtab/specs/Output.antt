@@ -7,6 +7,7 @@ use Rattle.job.specs.declared.jobs.Command.{Command}
 use Rattle.job.specs.declared.jobs.Command.TheVariants.{Stats, Schema, Validate, Head, Export, Query}
 use Rattle.job.specs.declared.jobs.Output.{Output}
 use Rattle.job.specs.declared.jobs.Output.TheVariants.{Lines, Json, Csv}
+use Rattle.job.specs.declared.jobs.QuerySource.{QuerySource}
 use Rattle.table.specs.QueryShape.{QueryShape}
 use Rattle.table.specs.QueryFault.{QueryFault}
 use Rattle.arrow_json.specs.QueryDocument.{ReadsQueryText}
@@ -35,10 +36,10 @@ Prints (Query source output) workers fields h text =
     (query : QueryShape (List ℕ)) × ReadsQueryText (text_of_query source) query × ShowsGroups (shown_as output query) query fields h text
 
 -- There is none, since the command's query is refused.
-abbrev pub PrintsNothing : Command → List FieldShape → History → QueryFault → Type 0
-PrintsNothing Stats fields h fault = ⊥
-PrintsNothing Schema fields h fault = ⊥
-PrintsNothing Validate fields h fault = ⊥
-PrintsNothing (Head count) fields h fault = ⊥
-PrintsNothing Export fields h fault = ⊥
-PrintsNothing (Query source output) fields h fault = (query : QueryShape (List ℕ)) × ReadsQueryText (text_of_query source) query × RefusesGroups query fields h fault
+pub record PrintsNothing (command : Command) (fields : List FieldShape) (h : History) (fault : QueryFault) : Type 0 where
+  pub source : QuerySource
+  pub output : Output
+  pub asks : command ≡ Query source output
+  pub query : QueryShape (List ℕ)
+  pub reads : ReadsQueryText (text_of_query source) query
+  pub refuses : RefusesGroups query fields h fault

@@ -8,8 +8,10 @@ use Rattle.arrays.specs.Shape.{FieldShape}
 use Rattle.table.specs.History.{History}
 use Rattle.job.specs.Jobs.{names_of, text_of_query}
 use Rattle.job.specs.declared.jobs.Command.{Command}
-use Rattle.job.specs.declared.jobs.Command.TheVariants.{Stats, Schema, Validate, Head, Export, Query}
+use Rattle.job.specs.declared.jobs.Command.TheVariants.{Query}
 use Rattle.job.specs.declared.jobs.Job.{Job}
+use Rattle.job.specs.declared.jobs.Output.{Output}
+use Rattle.job.specs.declared.jobs.QuerySource.{QuerySource}
 use Rattle.table.specs.FaultText.{query_fault_text}
 use Rattle.table.specs.QueryFault.{QueryFault}
 use Rattle.arrow_json.specs.QueryDocumentFault.{QueryBytesFault}
@@ -54,13 +56,11 @@ pub record Refuses (workers : ℕ) (inputs : Inputs) (file number : ℕ) (refusa
   pub stopped : IsStopped workers (map batches_with_fields files) (table_fields files) file number refusal
 
 -- The command's query isn't read: this fault of its bytes stands.
-abbrev pub FailedQuery : Command → JsonFaultKind → List Step → Type 0
-FailedQuery Stats kind path = ⊥
-FailedQuery Schema kind path = ⊥
-FailedQuery Validate kind path = ⊥
-FailedQuery (Head count) kind path = ⊥
-FailedQuery Export kind path = ⊥
-FailedQuery (Query source output) kind path = QueryBytesFault (text_of_query source) kind path
+pub record FailedQuery (command : Command) (kind : JsonFaultKind) (path : List Step) : Type 0 where
+  pub source : QuerySource
+  pub output : Output
+  pub asks : command ≡ Query source output
+  pub stands : QueryBytesFault (text_of_query source) kind path
 
 -- The files of these sources are loaded as for an answer, with the job's column behind all of them, and its query is refused
 -- over their table.

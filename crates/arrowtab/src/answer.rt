@@ -1,16 +1,14 @@
 //! The output of a job, or why there is none.
-ghost use Rattle.std.specs.Prelude.{◌^◌, ◌-◌, ◌<◌, ◌≤◌, All, IfErr, IfOk, length, map, option_map, string_bytes};
-ghost use Rattle.arrays.specs.Shape.{field_of};
+ghost use Rattle.std.specs.Prelude.{◌^◌, ◌-◌, ◌<◌, ◌≤◌, All, IfErr, IfOk, length, map, string_bytes};
 ghost use Rattle.arrowtab.specs.Explained.{Explains};
+ghost use Rattle.arrowtab.specs.OrMemory.{OrMemory};
 ghost use Rattle.arrowtab.specs.Run.{Answers};
 ghost use Rattle.arrowtab.specs.Wanted.{IsUnprinted, PrintsWanted};
-ghost use Rattle.arrowtab.specs.Worked.{Shows, StopsWanted};
 
 use crate::groups::groups_text;
 use crate::reading::read_files;
 use crate::together::load_together;
-use crate::wanted::{Request, Wanted, request_of};
-use arrays::File;
+use crate::wanted::{Wanted, column_of, wanted_of};
 use ends::Source;
 use job::Job;
 use reports::{RunFault, export_text, head_text, schema_text, stats_text};
@@ -36,38 +34,11 @@ pub(crate) fn answer<W: Wait + Sync, T: Threads + Sync, S: Source>(
     ensures err { IfErr result (Explains job.now (map S.remaining sources.old)
         (map S.failures sources.old) (map S.failures sources.new)) }
 {
-    match request_of(alloc, job) {
-        Ok(request) => match read_files(threads, alloc, job.workers, sources) {
-            Ok(files) => answer_files(wait, threads, alloc, request, files),
-            Err(fault) => Err(fault),
-        },
-        Err(fault) => Err(fault),
-    }
-}
-
-/// What is requested of files.
-fn answer_files<W: Wait + Sync, T: Threads + Sync>(
-    wait: &W,
-    threads: &T,
-    alloc: Global,
-    request: Request,
-    files: Vec<File>,
-) -> Result<String, RunFault>
-    requires some { 0 < length files.items }
-    requires worker { 1 ≤ request.workers }
-    requires few { request.workers ≤ 64 }
-    ensures ok { IfOk result (λ text. Shows request.wanted request.workers files.items (option_map field_of request.column) (string_bytes text)) }
-    ensures err { IfErr result (StopsWanted request.wanted request.workers files.items (option_map field_of request.column)) }
-{
-    let Request {
-        wanted,
-        column,
-        workers,
-    } = request;
-    match load_together(wait, threads, alloc, workers, files, column) {
-        Ok(version) => output_of(threads, alloc, &wanted, workers, &version),
-        Err(fault) => Err(fault),
-    }
+    let wanted = wanted_of(alloc, &job.command)?;
+    let column = column_of(alloc, job)?;
+    let files = read_files(threads, alloc, job.workers, sources)?;
+    let version = load_together(wait, threads, alloc, job.workers, files, column)?;
+    output_of(threads, alloc, &wanted, job.workers, &version)
 }
 
 /// What is wanted, for a version of the table that so many workers have loaded. A query is answered in as many pieces.
@@ -81,7 +52,7 @@ fn output_of<T: Threads + Sync>(
     requires some { 1 ≤ workers }
     requires few { workers ≤ 64 }
     ensures output { IfOk result (λ text. PrintsWanted wanted.now workers version.now.fields version.now.history (string_bytes text)) }
-    ensures err { IfErr result (IsUnprinted wanted.now version.now.fields version.now.history) }
+    ensures err { IfErr result (OrMemory (IsUnprinted wanted.now version.now.fields version.now.history)) }
 {
     match wanted {
         Wanted::Stats => Ok(stats_text(alloc, workers, version)?),

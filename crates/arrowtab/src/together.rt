@@ -5,6 +5,7 @@ ghost use Rattle.std.specs.List.{Any};
 ghost use mathlib.Core.List.{IsPrefix};
 ghost use Rattle.arrays.specs.Batch.{Batch};
 ghost use Rattle.arrays.specs.Shape.{field_of};
+ghost use Rattle.arrowtab.specs.OrMemory.{OrMemory};
 ghost use Rattle.arrowtab.specs.Worked.{AreAsWide, HaveLoaded, Holds, IsWidenedFirst, StopsLoading};
 ghost use Rattle.loads.specs.Loaded.{batches_of_files, fields_for};
 ghost use Rattle.shared.specs.Balance.{IsOfWorkers};
@@ -40,7 +41,7 @@ pub(crate) fn load_together<W: Wait + Sync, T: Threads + Sync>(
     requires worker { 1 ≤ workers }
     requires few { workers ≤ 64 }
     ensures ok { IfOk result (λ v. Holds workers files.items (option_map field_of column) (arc_value v)) }
-    ensures err { IfErr result (StopsLoading workers files.items (option_map field_of column)) }
+    ensures err { IfErr result (OrMemory (StopsLoading workers files.items (option_map field_of column))) }
 {
     let schema = files[0].schema().copy(alloc)?;
     let opening = Opening::new(alloc, schema, workers)?;
@@ -61,7 +62,7 @@ fn load_under<N: Naming + Send + Sync, W: Wait + Sync, T: Threads + Sync>(
     requires named { IsNamed N.book N.fields N.calls N.rows N.columns N.workers opening }
     requires fields { opening.fields ≡ fields_for files.now }
     ensures ok { IfOk result (λ v. Holds opening.workers files.now (option_map field_of column) (arc_value v)) }
-    ensures err { IfErr result (StopsLoading opening.workers files.now (option_map field_of column)) }
+    ensures err { IfErr result (OrMemory (StopsLoading opening.workers files.now (option_map field_of column))) }
 {
     match open::<N, &W>(wait, alloc, opening, 0) {
         Ok((table, hands, _readers)) => load_by(wait, threads, alloc, table, hands, files, column),
@@ -90,7 +91,7 @@ fn load_by<
     requires new { AreNew N.fields 0 hands.items }
     requires fields { N.fields ≡ fields_for files.now }
     ensures ok { IfOk result (λ v. Holds table files.now (option_map field_of column) (arc_value v)) }
-    ensures err { IfErr result (StopsLoading table files.now (option_map field_of column)) }
+    ensures err { IfErr result (OrMemory (StopsLoading table files.now (option_map field_of column))) }
 {
     let mut hands = hands;
     match load_all(
@@ -144,7 +145,7 @@ fn gather_with<N: Naming, P: Publish<Item = Shown<N>>, W: Wait>(
     requires loaded { HaveLoaded N.fields table files.now hands.items }
     requires fields { N.fields ≡ fields_for files.now }
     ensures ok { IfOk result (λ v. Holds table files.now (Some (field_of field)) (arc_value v)) }
-    ensures err { IfErr result (StopsLoading table files.now (Some (field_of field))) }
+    ensures err { IfErr result (OrMemory (StopsLoading table files.now (Some (field_of field)))) }
 {
     if !are_as_wide(files, files[0].schema().len()) {
         return match gather_all(wait, table, hands) {
@@ -183,8 +184,8 @@ fn widen_by_first<N: Naming, P: Publish<Item = Shown<N>>, W: Wait>(
 
 /// Why no column was added, as a fault of the run.
 fn add_fault_of(fault: AddFault) -> RunFault
-    ensures memory { fault ≡ AddFault.NoMemory → result ≡ RunFault.NoMemory }
-    ensures other { fault ≢ AddFault.NoMemory → result ≡ RunFault.OfColumn (ColumnFault.Refused fault) }
+    ensures { ((fault ≡ AddFault.NoMemory) × (result ≡ RunFault.NoMemory))
+        ⊎ ((fault ≢ AddFault.NoMemory) × (result ≡ RunFault.OfColumn (ColumnFault.Refused fault))) }
 {
     match fault {
         AddFault::NoMemory => RunFault::NoMemory,

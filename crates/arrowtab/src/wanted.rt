@@ -1,9 +1,9 @@
 //! What a job asks for: its query and its column's field are read before any source is.
-ghost use Rattle.std.specs.Prelude.{IfErr, IfOk, option_map, string_bytes};
+ghost use Rattle.std.specs.Prelude.{IfErr, IfOk, option_map};
 ghost use Rattle.arrays.specs.Shape.{field_of};
-ghost use Rattle.arrowtab.specs.Column.{IsColumn};
-ghost use Rattle.arrowtab.specs.Explained.{ExplainsText};
-ghost use Rattle.arrowtab.specs.Wanted.{IsColumnUnread, IsRequest, IsUnread, IsWanted};
+ghost use Rattle.arrowtab.specs.Column.{IsColumn, column_text};
+ghost use Rattle.arrowtab.specs.OrMemory.{OrMemory};
+ghost use Rattle.arrowtab.specs.Wanted.{IsColumnUnread, IsUnread, IsWanted};
 
 use arrays::Field;
 use arrow_json::{JsonFaultKind, read_field};
@@ -23,39 +23,12 @@ pub(crate) enum Wanted {
     Groups(QueryText, Output),
 }
 
-/// A job whose texts are read.
-#[derive(Drop)]
-pub(crate) struct Request {
-    pub(crate) wanted: Wanted,
-    /// The field of the column that is added once the files are loaded.
-    pub(crate) column: Option<Field>,
-    pub(crate) workers: u32,
-}
-
-/// What a job asks for, or why one of its texts isn't read. The query comes first.
-pub(crate) fn request_of(alloc: Global, job: &Job) -> Result<Request, RunFault>
-    ensures ok { IfOk result (IsRequest job.now) }
-    ensures err { IfErr result (ExplainsText job.now) }
+/// The field of the column that is added once the files are loaded, where the job has one.
+pub(crate) fn column_of(alloc: Global, job: &Job) -> Result<Option<Field>, RunFault>
+    ensures ok { IfOk result (λ field. IsColumn (column_text job.now) (option_map field_of field)) }
+    ensures err { IfErr result (OrMemory (IsColumnUnread job.now)) }
 {
-    match wanted_of(alloc, &job.command) {
-        Ok(wanted) => match column_of(alloc, &job.column) {
-            Ok(column) => Ok(Request {
-                wanted,
-                column,
-                workers: job.workers,
-            }),
-            Err(fault) => Err(fault),
-        },
-        Err(fault) => Err(fault),
-    }
-}
-
-/// The field that a column's text is read as, where there is one.
-fn column_of(alloc: Global, text: &Option<String>) -> Result<Option<Field>, RunFault>
-    ensures ok { IfOk result (λ field. IsColumn (option_map string_bytes text.now) (option_map field_of field)) }
-    ensures err { IfErr result (IsColumnUnread (option_map string_bytes text.now)) }
-{
-    let Some(text) = text else {
+    let Some(text) = &job.column else {
         return Ok(None);
     };
     match read_field(alloc, text.as_str().as_bytes()) {
@@ -70,7 +43,7 @@ fn column_of(alloc: Global, text: &Option<String>) -> Result<Option<Field>, RunF
 /// What a command asks for, or why its query isn't read.
 pub(crate) fn wanted_of(alloc: Global, command: &Command) -> Result<Wanted, RunFault>
     ensures ok { IfOk result (IsWanted command.now) }
-    ensures err { IfErr result (IsUnread command.now) }
+    ensures err { IfErr result (OrMemory (IsUnread command.now)) }
 {
     match command {
         Command::Stats => Ok(Wanted::Stats),

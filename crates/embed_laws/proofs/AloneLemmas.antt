@@ -20,9 +20,9 @@ use Rattle.arrowtab.proofs.ParseLemmas.{zip_map}
 use Rattle.arrowtab.specs.FileBatches.{FileBatch, batches_with_fields, table_fields, batch_tables}
 use Rattle.arrowtab.specs.QueryFault.{QueryFault}
 use Rattle.arrowtab.specs.Refusal.{Refusal}
-use Rattle.arrowtab.specs.FileFaults.{CannotRead, Json, Refused}
+use Rattle.arrowtab.specs.FileFaults.{Json, Refused}
 use Rattle.arrowtab.specs.RunFault.{RunFault}
-use Rattle.arrowtab.specs.RunFaults.{NoMemory, OfColumn, OfFile, QueryUnread, QueryRefused}
+use Rattle.arrowtab.specs.RunFaults.{NoMemory, OfFile, QueryUnread, QueryRefused}
 use Rattle.embed.specs.Output.{AreLoadable, IsAnswered, IsExport, IsQueryRefused, IsSchema, IsStats, OfTable, StopsQuery}
 use Rattle.embed.specs.Refused.{IsBatchRefused, StopsTexts}
 use Rattle.embed.specs.Loaded.{AddsAll, added, all_batches}
@@ -30,7 +30,7 @@ use Rattle.arrowtab.specs.Column.{IsColumn, column_text}
 use Rattle.arrowtab.specs.Explained.{Explains}
 use Rattle.arrowtab.specs.Loaded.{IsLoaded, IsStopped, added_by}
 use Rattle.arrowtab.specs.Output.{Prints, PrintsNothing}
-use Rattle.arrowtab.specs.Run.{Answers, AreRead, FailedQuery, Refuses, RefusesQuery}
+use Rattle.arrowtab.specs.Run.{Answers, AreRead, Refuses, RefusesQuery}
 use Rattle.arrowtab.proofs.PlanLemmas.{all_from, all_split, by_recursion, planned_alone}
 
 module _ (fields : List FieldShape) where
@@ -141,7 +141,6 @@ module _ (job : Job) (texts : List (List ℕ)) (before after : List ℕ) (one : 
 
   pub stops_alone : (fault : RunFault) → StopsTexts texts fault → Explains job (map (λ t. Some t) texts) before after fault
   stops_alone NoMemory is = tt
-  stops_alone (OfFile file CannotRead) is = absurd is
   stops_alone (OfFile file (Json f)) is = record {
     input = Some is.text;
     of_file = slice_get-map (λ t. Some t) texts file ∙ ap (option_map (λ t. Some t)) is.at;
@@ -150,9 +149,7 @@ module _ (job : Job) (texts : List (List ℕ)) (before after : List ℕ) (one : 
   stops_alone (OfFile file (Refused number e)) is =
       subst (λ n. Refuses n (map (λ t. Some t) texts) file number e) (sym one)
       (record { files = is.0; read = inputs_read is.0 is.1; stopped = stopped_alone is.0 file number e is.2 })
-  stops_alone (QueryUnread f) is = absurd is
-  stops_alone (QueryRefused f) is = absurd is
-  stops_alone (OfColumn f) is = absurd is
+  stops_alone fault is = absurd is
 
   refused_alone : (source : QuerySource) → column_text job ≡ None → (form : Output) → job.command ≡ command.Query source form → (fault : QueryFault) → IsQueryRefused (text_of_query source) texts fault → RefusesQuery job (map (λ t. Some t) texts) fault
   refused_alone source bare form same fault is =
@@ -169,12 +166,10 @@ module _ (job : Job) (texts : List (List ℕ)) (before after : List ℕ) (one : 
         loaded = subst (λ n. IsLoaded n (map batches_with_fields files) (table_fields files) table.history) (sym one)
             (subst (λ (fs : List FieldShape). IsLoaded 1 (map batches_with_fields files) fs table.history) opened (loaded_alone files table.fields table.history table.holds.loaded));
         refused = subst (λ (fs : List FieldShape). PrintsNothing job.command fs table.history fault) opened
-            (subst (λ (c : Command). PrintsNothing c table.fields table.history fault) (sym same) (is.0, is.1, table.is));
+            (record { source = source; output = form; asks = same; query = is.0; reads = is.1; refuses = table.is });
       }
 
   pub query_stops_alone : (source : QuerySource) → column_text job ≡ None → (form : Output) → job.command ≡ command.Query source form → (fault : RunFault) → StopsQuery (text_of_query source) texts fault → Explains job (map (λ t. Some t) texts) before after fault
-  query_stops_alone source bare form same NoMemory is = tt
-  query_stops_alone source bare form same (OfFile file fault) is = stops_alone (OfFile file fault) is
-  query_stops_alone source bare form same (QueryUnread f) is = subst (λ (c : Command). FailedQuery c f.kind f.path) (sym same) is
+  query_stops_alone source bare form same (QueryUnread f) is = record { source = source; output = form; asks = same; stands = is }
   query_stops_alone source bare form same (QueryRefused f) is = refused_alone source bare form same f is
-  query_stops_alone source bare form same (OfColumn f) is = absurd is
+  query_stops_alone source bare form same fault is = stops_alone fault is

@@ -1,31 +1,33 @@
-use Rattle.std.proofs.Common.{arith, map, string_bytes, sym}
+use Rattle.std.proofs.Common.{arith, map, option_map, string_bytes, subst, sym}
 use Rattle.std.proofs.lemmas.List.{length-map}
-use Rattle.arrowtab.proofs.AnswerLemmas.{err_explains, files_explain, ok_answers, some_files, text_explains}
+use Rattle.std.proofs.lemmas.Result.{err_from_is_err_and}
+use Rattle.arrays.specs.Shape.{field_of}
+use Rattle.arrowtab.specs.Worked.{Holds}
+use Rattle.arrowtab.proofs.AnswerLemmas.{err_explains, loading_explains, ok_answers, some_files}
 use Rattle.arrowtab.proofs.answer.answer.Goals as goal
 
-pub answer_files-requires-clause-some : goal.answer_files-requires-clause-some
-answer_files-requires-clause-some g c =
+pub load_together-requires-clause-some : goal.load_together-requires-clause-some
+load_together-requires-clause-some g c =
     let inputs = map g.S.Source.remaining c.args.sources.now in
-    omega (arith, some_files inputs c.in-Ok-read_files.files.items c.in-Ok-read_files.ensures.read, length-map c.args.sources.now g.S.Source.remaining, c.requires.some)
+    omega (arith, some_files inputs c.in_ok-files.files.items c.in_ok-files.ensures.read, length-map c.args.sources.now g.S.Source.remaining, c.requires.some)
 
-pub answer_files-requires-clause-worker : goal.answer_files-requires-clause-worker
-answer_files-requires-clause-worker g c = omega (arith, c.in-Ok.ensures.ok.workers, c.requires.worker)
+pub returns-in_err-version-clause-err : goal.returns-in_err-version-clause-err
+returns-in_err-version-clause-err g c =
+    let p = err_from_is_err_and c.from_residual-in_err-version.result c.from_residual-in_err-version.ensures.1 in
+    rw (p.1, p.2)
+    (loading_explains c.args.job.now _ c.in_ok-files.files.items c.in_ok-files.ensures.read c.in_ok-files.ensures.under (option_map field_of c.in_ok-column.column) c.in_ok-column.ensures.ok _ _
+    c.in_err-version.field-0.0 c.in_err-version.ensures.err)
 
-pub answer_files-requires-clause-few : goal.answer_files-requires-clause-few
-answer_files-requires-clause-few g c = omega (arith, c.in-Ok.ensures.ok.workers, c.requires.few)
+pub returns-clause-ok : goal.returns-clause-ok
+returns-clause-ok g c =
+    let column = option_map field_of c.in_ok-column.column in
+    let files = c.in_ok-files.files.items in
+    ok_answers c.args.job.now _ files c.in_ok-files.ensures.read c.in_ok-files.ensures.under column c.in_ok-column.ensures.ok c.in_ok-wanted.wanted c.in_ok-wanted.ensures.ok c.deref.result.now
+    (subst (Holds c.args.job.now.workers files column) (sym c.deref.ensures) c.in_ok-version.ensures.ok) c.output_of.result string_bytes c.output_of.ensures.output
 
-pub returns-in-Err-clause-err : goal.returns-in-Err-clause-err
-returns-in-Err-clause-err g c = text_explains c.args.job.now _ _ _ c.in-Err.fault c.in-Err.ensures.err
-
-pub returns-in-Err-read_files-clause-err : goal.returns-in-Err-read_files-clause-err
-returns-in-Err-read_files-clause-err g c = files_explain c.args.job.now _ _ _ c.in-Err-read_files.fault c.in-Err-read_files.ensures.err
-
-pub returns-in-Ok-read_files-clause-ok : goal.returns-in-Ok-read_files-clause-ok
-returns-in-Ok-read_files-clause-ok g c =
-    ok_answers c.in-Ok.request.workers _ c.in-Ok-read_files.files.items c.in-Ok-read_files.ensures.read c.in-Ok-read_files.ensures.under c.args.job.now c.in-Ok.request c.answer_files.result string_bytes
-    c.in-Ok.ensures.ok (sym c.in-Ok.ensures.ok.workers) c.answer_files.ensures.ok
-
-pub returns-in-Ok-read_files-clause-err : goal.returns-in-Ok-read_files-clause-err
-returns-in-Ok-read_files-clause-err g c =
-    err_explains c.in-Ok.request.workers _ c.in-Ok-read_files.files.items c.in-Ok-read_files.ensures.read c.in-Ok-read_files.ensures.under c.args.job.now c.in-Ok.request _ _ c.answer_files.result
-    c.in-Ok.ensures.ok (sym c.in-Ok.ensures.ok.workers) c.answer_files.ensures.err
+pub returns-clause-err : goal.returns-clause-err
+returns-clause-err g c =
+    let column = option_map field_of c.in_ok-column.column in
+    let files = c.in_ok-files.files.items in
+    err_explains c.args.job.now _ files c.in_ok-files.ensures.read c.in_ok-files.ensures.under column c.in_ok-column.ensures.ok c.in_ok-wanted.wanted c.in_ok-wanted.ensures.ok c.deref.result.now
+    (subst (Holds c.args.job.now.workers files column) (sym c.deref.ensures) c.in_ok-version.ensures.ok) _ _ c.output_of.result c.output_of.ensures.err

@@ -1,7 +1,7 @@
 use Rattle.std.proofs.Common.{◌+◌, ◌-◌, ◌<◌, ◌^◌, [], Global, List, Vec, arith, map, slice_set, subst, sym, ℕ}
 use Rattle.std.proofs.lemmas.Result.{err_from_is_err_and}
 use Rattle.arrays.specs.File.{File}
-use Rattle.arrowtab.proofs.ReadLemmas.{ReadSoFar, ReadSoFar-added, ReadSoFar-none, ReadSoFar-pushed, ReadSoFar-whole, all_at, counted, parsing_explained, parsing_first, source_explained, source_first, still}
+use Rattle.arrowtab.proofs.ReadLemmas.{ReadSoFar, ReadSoFar-added, ReadSoFar-none, ReadSoFar-pushed, ReadSoFar-whole, all_at, counted, parsing_stops, source_stops, still}
 use Rattle.arrowtab.proofs.reading.read_files.Goals as goal
 use Rattle.arrowtab.proofs.reading.read_files.Goals.{then-len-workers+in_ok-add_files, else-len-workers}
 
@@ -23,26 +23,14 @@ returns-in_err-add_files-in-Err-clause-err g c =
     let so_far = c.loop-number.invariant in
     let p = err_from_is_err_and c.from_residual-in_err-add_files-in-Err.result c.from_residual-in_err-add_files-in-Err.ensures.1 in
     rw (p.1, p.2)
-    (parsing_explained g.S.Source.remaining g.S.Source.failures c.args.sources.now c.loop-number.sources c.loop-number.files.items (map (λ t. t.items) c.loop-number.texts.items) c.loop-number.number so_far _ c.in_err-add_files-in-Err.field-0.0 c.in_err-add_files-in-Err.ensures.err)
-
-pub returns-in_err-add_files-in-Err-clause-first : goal.returns-in_err-add_files-in-Err-clause-first
-returns-in_err-add_files-in-Err-clause-first g c =
-    let so_far = c.loop-number.invariant in
-    let p = err_from_is_err_and c.from_residual-in_err-add_files-in-Err.result c.from_residual-in_err-add_files-in-Err.ensures.1 in
-    rw (p.1, p.2)
-    (parsing_first g.S.Source.remaining g.S.Source.failures c.args.sources.now c.loop-number.sources c.loop-number.files.items (map (λ t. t.items) c.loop-number.texts.items) c.loop-number.number so_far _ c.in_err-add_files-in-Err.field-0.0
+    (parsing_stops g.S.Source.remaining g.S.Source.failures c.args.sources.now c.loop-number.sources c.loop-number.files.items (map (λ t. t.items) c.loop-number.texts.items) c.loop-number.number so_far _ c.in_err-add_files-in-Err.field-0.0
     (λ i h. still g.S.Source.remaining g.S.Source.failures c.args.sources.now c.loop-number.sources c.loop-number.files.items (map (λ t. t.items) c.loop-number.texts.items) c.loop-number.number so_far i c.read_whole.new.source h) c.in_err-add_files-in-Err.ensures.err)
 
 pub returns-in-Err-clause-err : goal.returns-in-Err-clause-err
 returns-in-Err-clause-err g c =
     let so_far = c.loop-number.invariant in
-    source_explained g.S.Source.remaining g.S.Source.failures c.args.sources.now c.loop-number.sources c.loop-number.files.items (map (λ t. t.items) c.loop-number.texts.items) c.loop-number.number so_far c.index-sources-number.result c.read_whole.new.source c.in-Err.fault c.source_fault.result (omega (arith, c.loop-number-test.true, so_far.same))
-    (counted (Vec ℕ Global) _ _ c.in-Err.fault c.in-Err.ensures.count) c.source_fault.ensures
-
-pub returns-in-Err-clause-first : goal.returns-in-Err-clause-first
-returns-in-Err-clause-first g c =
-    let so_far = c.loop-number.invariant in
-    source_first g.S.Source.remaining g.S.Source.failures c.args.sources.now c.loop-number.sources c.loop-number.files.items (map (λ t. t.items) c.loop-number.texts.items) c.loop-number.number so_far c.read_whole.new.source c.in-Err.fault c.source_fault.result c.add_files.new.files.items c.in_ok-add_files-in-Err.ensures.ok c.source_fault.ensures
+    source_stops g.S.Source.remaining g.S.Source.failures c.args.sources.now c.loop-number.sources c.loop-number.files.items (map (λ t. t.items) c.loop-number.texts.items) c.loop-number.number so_far c.index-sources-number.result c.read_whole.new.source c.in-Err.fault c.source_fault.result c.add_files.new.files.items (omega (arith, c.loop-number-test.true, so_far.same))
+    (counted (Vec ℕ Global) _ _ c.in-Err.fault c.in-Err.ensures.count) c.in_ok-add_files-in-Err.ensures.ok c.source_fault.ensures
 
 -- ---- a window that is full
 
@@ -51,14 +39,7 @@ returns-in_err-add_files-clause-err g c =
     let so_far = c.loop-number.invariant in
     let p = err_from_is_err_and c.from_residual-in_err-add_files.result c.from_residual-in_err-add_files.ensures.1 in
     let next = ReadSoFar-pushed g.S.Source.remaining g.S.Source.failures c.args.sources.now (λ t. t.items) c.loop-number.sources c.loop-number.files.items c.loop-number.texts.items c.push.new.self.items c.loop-number.number c.index-sources-number.result c.read_whole.new.source c.in-Ok.text so_far (omega (arith, c.loop-number-test.true, so_far.same)) c.in_ok-push-in-Ok.ensures.items c.in-Ok.ensures.count c.in-Ok.ensures.whole in
-    rw (p.1, p.2) (parsing_explained g.S.Source.remaining g.S.Source.failures c.args.sources.now _ c.loop-number.files.items _ (c.loop-number.number + 1) next _ c.in_err-add_files.field-0.0 c.in_err-add_files.ensures.err)
-
-pub returns-in_err-add_files-clause-first : goal.returns-in_err-add_files-clause-first
-returns-in_err-add_files-clause-first g c =
-    let so_far = c.loop-number.invariant in
-    let p = err_from_is_err_and c.from_residual-in_err-add_files.result c.from_residual-in_err-add_files.ensures.1 in
-    let next = ReadSoFar-pushed g.S.Source.remaining g.S.Source.failures c.args.sources.now (λ t. t.items) c.loop-number.sources c.loop-number.files.items c.loop-number.texts.items c.push.new.self.items c.loop-number.number c.index-sources-number.result c.read_whole.new.source c.in-Ok.text so_far (omega (arith, c.loop-number-test.true, so_far.same)) c.in_ok-push-in-Ok.ensures.items c.in-Ok.ensures.count c.in-Ok.ensures.whole in
-    rw (p.1, p.2) (parsing_first g.S.Source.remaining g.S.Source.failures c.args.sources.now _ c.loop-number.files.items _ (c.loop-number.number + 1) next _ c.in_err-add_files.field-0.0 next.quiet c.in_err-add_files.ensures.err)
+    rw (p.1, p.2) (parsing_stops g.S.Source.remaining g.S.Source.failures c.args.sources.now _ c.loop-number.files.items _ (c.loop-number.number + 1) next _ c.in_err-add_files.field-0.0 next.quiet c.in_err-add_files.ensures.err)
 
 pub loop-number-preserved : goal.loop-number-preserved
 loop-number-preserved g c =
@@ -82,13 +63,7 @@ pub returns-in_err-add_files-2-clause-err : goal.returns-in_err-add_files-2-clau
 returns-in_err-add_files-2-clause-err g c =
     let so_far = c.loop-number.invariant in
     let p = err_from_is_err_and c.from_residual-in_err-add_files-2.result c.from_residual-in_err-add_files-2.ensures.1 in
-    rw (p.1, p.2) (parsing_explained g.S.Source.remaining g.S.Source.failures c.args.sources.now c.loop-number.sources c.loop-number.files.items (map (λ t. t.items) c.loop-number.texts.items) c.loop-number.number so_far _ c.in_err-add_files-2.field-0.0 c.in_err-add_files-2.ensures.err)
-
-pub returns-in_err-add_files-2-clause-first : goal.returns-in_err-add_files-2-clause-first
-returns-in_err-add_files-2-clause-first g c =
-    let so_far = c.loop-number.invariant in
-    let p = err_from_is_err_and c.from_residual-in_err-add_files-2.result c.from_residual-in_err-add_files-2.ensures.1 in
-    rw (p.1, p.2) (parsing_first g.S.Source.remaining g.S.Source.failures c.args.sources.now c.loop-number.sources c.loop-number.files.items (map (λ t. t.items) c.loop-number.texts.items) c.loop-number.number so_far _ c.in_err-add_files-2.field-0.0 so_far.quiet c.in_err-add_files-2.ensures.err)
+    rw (p.1, p.2) (parsing_stops g.S.Source.remaining g.S.Source.failures c.args.sources.now c.loop-number.sources c.loop-number.files.items (map (λ t. t.items) c.loop-number.texts.items) c.loop-number.number so_far _ c.in_err-add_files-2.field-0.0 so_far.quiet c.in_err-add_files-2.ensures.err)
 
 pub returns-clause-read : goal.returns-clause-read
 returns-clause-read g c =

@@ -1,10 +1,19 @@
-use Rattle.std.proofs.Common.{◌≡◌, ◌∙◌, ◌++◌, List, ap, arith, drop, length, refl, subst, sym, take}
+use Rattle.std.proofs.Common.{◌≡◌, ◌≢◌, ◌∙◌, ◌++◌, ℕ, List, None, Some, ap, arith, drop, inl, inr, length, refl, subst, sym, take}
 use Rattle.std.specs.Arc.{arc_value}
+use Rattle.std.specs.Prelude.{◌⊎◌}
+use Rattle.arrays.specs.File.{File}
 use Rattle.arrays.specs.Shape.{FieldShape, field_of}
 use Rattle.loads.specs.Loaded.{batches_of_files}
 use Rattle.shared.specs.Hand.{Hand}
 use Rattle.table.specs.Stored.{stored_field}
-use Rattle.arrowtab.specs.Worked.{IsWidenedFirst}
+use Rattle.table.specs.Widened.{add_fault}
+use Rattle.table.specs.declared.add_fault.AddFault.{AddFault}
+use Rattle.table.specs.declared.add_fault.AddFault.TheVariants as add
+use Rattle.reports.specs.declared.run_fault.ColumnFault.TheVariants.{Refused}
+use Rattle.reports.specs.declared.run_fault.RunFault.{RunFault}
+use Rattle.reports.specs.declared.run_fault.RunFault.TheVariants.{NoMemory, OfColumn}
+use Rattle.arrowtab.specs.OrMemory.{OrMemory}
+use Rattle.arrowtab.specs.Worked.{IsWidenedFirst, StopsLoading}
 use Rattle.arrowtab.proofs.TogetherLemmas.{all_fit, loaded_there, written_back}
 use Rattle.arrowtab.proofs.WideLemmas.{first_count, none_other, ok_wide, wide_there}
 use Rattle.arrowtab.proofs.together.gather_with.Goals as goal
@@ -54,3 +63,13 @@ returns-in-Ok-widen_by_first-clause-ok g c =
     c.requires.fields many (c.if-not-are_as_wide.ensures.all refl) loaded.new loaded.loaded first
     (written_back c.args.hands.len items new c.args.hands.ok.0 (c.widen_by_first.auto.hands ∙ ap (λ (hands : List Hand). length hands) c.as_mut_slice.ensures.value))
     c.in-Ok-widen_by_first.ensures.allowed gathered.whole gathered.known gathered.legal gathered.columns
+
+not_added : (workers : ℕ) (files : List File) (f : FieldShape) (fault : AddFault) (reported : RunFault) → ((fault ≡ add.NoMemory) × (add_fault f ≡ None)) ⊎ (add_fault f ≡ Some fault)
+    → ((fault ≡ add.NoMemory) × (reported ≡ NoMemory)) ⊎ ((fault ≢ add.NoMemory) × (reported ≡ OfColumn (Refused fault))) → OrMemory (StopsLoading workers files (Some f)) reported
+not_added workers files f fault reported why (inl is) = inl is.1
+not_added workers files f fault reported (inl wants) (inr is) = absurd (is.0 wants.0)
+not_added workers files f fault reported (inr stands) (inr is) = inr (inr (f, fault, refl, is.1, stands))
+
+pub returns-in-Err-widen_by_first-clause-err : goal.returns-in-Err-widen_by_first-clause-err
+returns-in-Err-widen_by_first-clause-err g c =
+    not_added c.args.table c.args.files.now (field_of c.args.field) c.in-Err-widen_by_first.fault c.add_fault_of.result c.in-Err-widen_by_first.ensures.err c.add_fault_of.ensures

@@ -1,4 +1,4 @@
-use Rattle.std.proofs.Common.{◌≡◌, ◌∙◌, ◌+◌, ◌++◌, ◌%◌, IfOk, List, Option, option_map, ap, drop, get_or, length, refl, subst, sym, take}
+use Rattle.std.proofs.Common.{◌≡◌, ◌∙◌, ◌+◌, ◌++◌, ◌%◌, IfOk, List, Option, option_map, ap, drop, get_or, inl, inr, length, refl, subst, sym, take}
 use Rattle.std.specs.Arc.{arc_value}
 use Rattle.arrays.specs.Shape.{field_of}
 use Rattle.shared.specs.Balance.{IsOfWorkers}
@@ -39,13 +39,19 @@ returns-in-Ok-gather_all-clause-err g c =
     let stay = stopped_stay c.args.files.now first old new v c.in-Err-Refused.file c.in-Err-Refused.batch c.in-Err-Refused.refusal (subst (AreNew first 0) (sym same) c.requires.new)
     (rw c.in-Err-Refused.field-0-is at c.in-Err-Refused.ensures.err) c.in-Ok-gather_all.ensures.opened
     (subst (λ (hands : List Hand). length v.fields ≡ length first + sum_by columns_of_hand hands) is c.in-Ok-gather_all.ensures.columns) in
-    stopped_all c.args.table c.args.files.now g.N.Naming-1.fields old new v c.in-Err-Refused.file c.in-Err-Refused.batch g.N.Naming-1.workers c.in-Err-Refused.refusal own c.requires.worker
-    size c.requires.fields stay (subst (AreNew g.N.Naming-1.fields 0) (sym same) c.requires.new)
-    (rw c.in-Err-Refused.field-0-is at c.in-Err-Refused.ensures.err)
-    (c.index.ensures ∙ ap (λ (hands : List Hand). get_or hands (c.in-Err-Refused.file % c.len.result) own) is ∙ ap (λ n. get_or new (c.in-Err-Refused.file % n) own) count)
-    c.tell.ensures.part c.tell.ensures.legal
-    (subst (λ (hands : List Hand). All (HasAllItsPairs (known_of v)) hands) is c.in-Ok-gather_all.ensures.whole)
-    (subst (λ n. IsOfWorkers n v.history) refl c.in-Ok-gather_all.ensures.known)
+    inr (inl (
+      c.in-Err-Refused.file,
+      c.in-Err-Refused.batch,
+      c.in-Err-Refused.refusal,
+      refl,
+      stopped_all c.args.table c.args.files.now g.N.Naming-1.fields old new v c.in-Err-Refused.file c.in-Err-Refused.batch g.N.Naming-1.workers c.in-Err-Refused.refusal own c.requires.worker
+          size c.requires.fields stay (subst (AreNew g.N.Naming-1.fields 0) (sym same) c.requires.new)
+          (rw c.in-Err-Refused.field-0-is at c.in-Err-Refused.ensures.err)
+          (c.index.ensures ∙ ap (λ (hands : List Hand). get_or hands (c.in-Err-Refused.file % c.len.result) own) is ∙ ap (λ n. get_or new (c.in-Err-Refused.file % n) own) count)
+          c.tell.ensures.part c.tell.ensures.legal
+          (subst (λ (hands : List Hand). All (HasAllItsPairs (known_of v)) hands) is c.in-Ok-gather_all.ensures.whole)
+          (subst (λ n. IsOfWorkers n v.history) refl c.in-Ok-gather_all.ensures.known),
+    ))
 
 pub gather_all-requires : goal.gather_all-requires
 gather_all-requires g c =

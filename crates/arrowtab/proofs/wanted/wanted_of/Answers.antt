@@ -12,5 +12,4 @@ returns-in-Ok-clause-ok c =
 
 pub returns-in-Err-clause-err : goal.returns-in-Err-clause-err
 returns-in-Err-clause-err c =
-    rw c.in-Query.is
-    (text_unread c.in-Query.query c.in-Query.output c.in-Err.fault (subst (λ b. IsUnreadQuery b c.in-Err.fault) c.text.ensures c.in-Err.ensures.err))
+    text_unread c.args.command.now c.in-Query.query c.in-Query.output c.in-Err.fault c.in-Query.is (subst (λ b. IsUnreadQuery b c.in-Err.fault) c.text.ensures c.in-Err.ensures.err)
