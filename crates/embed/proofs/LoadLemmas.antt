@@ -25,9 +25,9 @@ use Rattle.reports.proofs.FileLemmas.{AreKept, data_of, file-listed}
 use Rattle.reports.proofs.ParseLemmas.{reported_stands, zip_more}
 use Rattle.reports.specs.FileBatches.{FileBatch, batch_of, batches_with_fields, table_fields}
 use Rattle.reports.specs.Parsed.{IsTextOf}
-use Rattle.reports.specs.declared.run_fault.FileFault.TheVariants.{CannotRead, Json, Refused}
+use Rattle.reports.specs.declared.run_fault.FileFault.TheVariants.{Json, Refused}
 use Rattle.reports.specs.declared.run_fault.RunFault.{RunFault}
-use Rattle.reports.specs.declared.run_fault.RunFault.TheVariants.{NoMemory, OfColumn, OfFile, QueryUnread, QueryRefused}
+use Rattle.reports.specs.declared.run_fault.RunFault.TheVariants.{NoMemory, OfFile}
 use Rattle.embed.specs.Loaded.{AddsAll, HoldsFiles, all_batches}
 use Rattle.embed.specs.Refused.{IsBatchRefused, IsStoppedIn, StopsTexts, StopsIn, StopsFiles}
 
@@ -176,17 +176,13 @@ module _ (files : List File) (kept : AreKept files) (i : ℕ) (f : File) (at : s
   -- .. or one of its batches is refused
   pub files-stop : (fault : RunFault) → StopsIn (all_batches (take i (data_of files))) (map batch_of f.batches) (table_fields (data_of files)) i fault → StopsFiles (data_of files) fault
   files-stop NoMemory stops = tt
-  files-stop (OfFile file CannotRead) stops = absurd stops
-  files-stop (OfFile file (Json g)) stops = absurd stops
   files-stop (OfFile file (Refused number e)) stops =
       subst (λ n. IsBatchRefused (data_of files) n number e) (sym stops.0) (record {
         one = file_of f;
         at = data_at;
         stopped = subst (λ (l : List FileBatch). IsStoppedIn (all_batches (take i (data_of files))) l (table_fields (data_of files)) number e) listed stops.1;
       })
-  files-stop (QueryUnread g) stops = absurd stops
-  files-stop (QueryRefused g) stops = absurd stops
-  files-stop (OfColumn g) stops = absurd stops
+  files-stop fault stops = absurd stops
 
 -- the file at a place
 pub file_at : (files : List File) (i : ℕ) (f : File) → i < length files → f ≡ get_or files i f → slice_get files i ≡ Some f
@@ -206,9 +202,5 @@ all_loaded texts files seen t v read same shown opened loaded =
 -- what stops loading the files of texts
 pub loading_stops : (texts : List (List ℕ)) (files : List File) (fault : RunFault) → AllZip IsTextOf texts files → StopsFiles (data_of files) fault → StopsTexts texts fault
 loading_stops texts files NoMemory read stops = tt
-loading_stops texts files (OfFile file CannotRead) read stops = absurd stops
-loading_stops texts files (OfFile file (Json f)) read stops = absurd stops
 loading_stops texts files (OfFile file (Refused number e)) read stops = (data_of files, texts_read texts files read, stops)
-loading_stops texts files (QueryUnread f) read stops = absurd stops
-loading_stops texts files (QueryRefused f) read stops = absurd stops
-loading_stops texts files (OfColumn f) read stops = absurd stops
+loading_stops texts files fault read stops = absurd stops

@@ -1,10 +1,9 @@
 -- What a table answers to the bytes of a query.
-use Rattle.std.specs.Prelude.{◌≡◌, ℕ, List, [], Ok, ⊤}
+use Rattle.std.specs.Prelude.{◌≡◌, ℕ, List, [], Ok}
 use Rattle.table.specs.Groups.{GroupShape, groups}
 use Rattle.arrays.specs.Batch.{Batch}
 use Rattle.arrays.specs.Shape.{FieldShape}
 use Rattle.arrow_json.specs.QueryDocument.{ReadsQueryText}
-use Rattle.arrow_json.specs.QueryDocumentFault.{QueryBytesFault}
 use Rattle.table.specs.QueryShape.{QueryShape}
 use Rattle.table.specs.Resolved.{resolved}
 use Rattle.results.specs.Result.{result_batch}
@@ -14,8 +13,9 @@ use Rattle.table.specs.History.{History, rows}
 use Rattle.table.specs.Stored.{stored_fields}
 use Rattle.reports.specs.GroupLines.{column_names}
 use Rattle.reports.specs.Queried.{PrintsGroups, RefusesGroups}
+use Rattle.reports.specs.QueryFaults.{IsUnreadQuery}
 use Rattle.reports.specs.declared.run_fault.RunFault.{RunFault}
-use Rattle.reports.specs.declared.run_fault.RunFault.TheVariants.{NoMemory, OfColumn, OfFile, QueryUnread, QueryRefused}
+use Rattle.reports.specs.declared.run_fault.RunFault.TheVariants.{QueryRefused}
 
 -- The text is what `query` prints of the table, for the query that the bytes are read as.
 abbrev pub PrintsAnswer : List ℕ → List FieldShape → History → List ℕ → Type 0
@@ -23,11 +23,8 @@ PrintsAnswer query fields h text = (shape : QueryShape (List ℕ)) × ReadsQuery
 
 -- The fault of the query: of its bytes, or over the table.
 abbrev pub StopsAnswer : List ℕ → List FieldShape → History → RunFault → Type 0
-StopsAnswer query fields h NoMemory = ⊤
-StopsAnswer query fields h (OfFile file fault) = ⊥
-StopsAnswer query fields h (QueryUnread f) = QueryBytesFault query f.kind f.path
 StopsAnswer query fields h (QueryRefused f) = (shape : QueryShape (List ℕ)) × ReadsQueryText query shape × RefusesGroups shape fields h f
-StopsAnswer query fields h (OfColumn f) = ⊥
+StopsAnswer query fields h fault = IsUnreadQuery query fault
 
 -- ---- the answer as a table
 

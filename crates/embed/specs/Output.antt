@@ -13,7 +13,7 @@ use Rattle.reports.specs.Fields.{schema_lines}
 use Rattle.reports.specs.Queried.{PrintsGroups, RefusesGroups}
 use Rattle.reports.specs.Shown.{stats_text}
 use Rattle.reports.specs.declared.run_fault.RunFault.{RunFault}
-use Rattle.reports.specs.declared.run_fault.RunFault.TheVariants.{NoMemory, OfColumn, OfFile, QueryUnread, QueryRefused}
+use Rattle.reports.specs.declared.run_fault.RunFault.TheVariants.{OfFile, QueryUnread, QueryRefused}
 use Rattle.embed.specs.Loaded.{HoldsFiles}
 use Rattle.embed.specs.Refused.{StopsTexts}
 
@@ -50,19 +50,14 @@ IsQueryRefused query texts fault = (shape : QueryShape (List ℕ)) × ReadsQuery
 
 -- The fault of a query over files.
 abbrev pub StopsQuery : List ℕ → List (List ℕ) → RunFault → Type 0
-StopsQuery query texts NoMemory = ⊤
-StopsQuery query texts (OfFile file fault) = StopsTexts texts (OfFile file fault)
 StopsQuery query texts (QueryUnread f) = QueryBytesFault query f.kind f.path
 StopsQuery query texts (QueryRefused f) = IsQueryRefused query texts f
-StopsQuery query texts (OfColumn f) = ⊥
+StopsQuery query texts fault = StopsTexts texts fault
 
 -- The name of a fault's file, if it is one of a file: its number, from 0.
 abbrev pub file_name : RunFault → List ℕ
-file_name NoMemory = []
 file_name (OfFile file fault) = decimal file
-file_name (QueryUnread f) = []
-file_name (QueryRefused f) = []
-file_name (OfColumn f) = []
+file_name fault = []
 
 -- The line of a fault.
 abbrev pub line_of_fault : RunFault → List ℕ

@@ -8,9 +8,9 @@ use Rattle.arrow_json.specs.JsonFile.{BytesFault, Reads}
 use Rattle.table.specs.Cause.{IsLegal, handed_cause}
 use Rattle.table.specs.declared.refusal.Refusal.{Refusal}
 use Rattle.reports.specs.FileBatches.{FileBatch, batches_with_fields, table_fields}
-use Rattle.reports.specs.declared.run_fault.FileFault.TheVariants.{CannotRead, Json, Refused}
+use Rattle.reports.specs.declared.run_fault.FileFault.TheVariants.{Json, Refused}
 use Rattle.reports.specs.declared.run_fault.RunFault.{RunFault}
-use Rattle.reports.specs.declared.run_fault.RunFault.TheVariants.{NoMemory, OfColumn, OfFile, QueryUnread, QueryRefused}
+use Rattle.reports.specs.declared.run_fault.RunFault.TheVariants.{NoMemory, OfFile}
 use Rattle.embed.specs.Loaded.{added, all_batches}
 
 -- This text is no file, and those before it are.
@@ -28,15 +28,15 @@ pub record IsStoppedIn (before batches : List FileBatch) (fields : List FieldSha
   pub legal : IsLegal fields (added (before ++ take number batches))
   pub stands : handed_cause fields (added (before ++ take number batches)) batch.fields batch.rows ≡ Some refusal
 
+-- Want of memory, or a batch of a file that is refused as this says.
+abbrev pub OfBatch : (ℕ → ℕ → Refusal → Type 0) → RunFault → Type 0
+OfBatch says NoMemory = ⊤
+OfBatch says (OfFile file (Refused number refusal)) = says file number refusal
+OfBatch says fault = ⊥
+
 -- The fault of adding the batches of the file at a place, after some batches.
 abbrev pub StopsIn : List FileBatch → List FileBatch → List FieldShape → ℕ → RunFault → Type 0
-StopsIn before batches fields place NoMemory = ⊤
-StopsIn before batches fields place (OfFile file CannotRead) = ⊥
-StopsIn before batches fields place (OfFile file (Json f)) = ⊥
-StopsIn before batches fields place (OfFile file (Refused number refusal)) = (file ≡ place) × IsStoppedIn before batches fields number refusal
-StopsIn before batches fields place (QueryUnread f) = ⊥
-StopsIn before batches fields place (QueryRefused f) = ⊥
-StopsIn before batches fields place (OfColumn f) = ⊥
+StopsIn before batches fields place fault = OfBatch (λ file number refusal. (file ≡ place) × IsStoppedIn before batches fields number refusal) fault
 
 -- A batch of this file is refused, after those of the files before it.
 pub record IsBatchRefused (files : List FileData) (file number : ℕ) (refusal : Refusal) : Type 0 where
@@ -46,20 +46,9 @@ pub record IsBatchRefused (files : List FileData) (file number : ℕ) (refusal :
 
 -- The fault of loading files.
 abbrev pub StopsFiles : List FileData → RunFault → Type 0
-StopsFiles files NoMemory = ⊤
-StopsFiles files (OfFile file CannotRead) = ⊥
-StopsFiles files (OfFile file (Json f)) = ⊥
-StopsFiles files (OfFile file (Refused number refusal)) = IsBatchRefused files file number refusal
-StopsFiles files (QueryUnread f) = ⊥
-StopsFiles files (QueryRefused f) = ⊥
-StopsFiles files (OfColumn f) = ⊥
+StopsFiles files fault = OfBatch (IsBatchRefused files) fault
 
 -- The fault of reading files from their texts, or of loading them.
 abbrev pub StopsTexts : List (List ℕ) → RunFault → Type 0
-StopsTexts texts NoMemory = ⊤
-StopsTexts texts (OfFile file CannotRead) = ⊥
 StopsTexts texts (OfFile file (Json f)) = IsUnreadText texts file f
-StopsTexts texts (OfFile file (Refused number refusal)) = (files : List FileData) × AllZip Reads texts files × IsBatchRefused files file number refusal
-StopsTexts texts (QueryUnread f) = ⊥
-StopsTexts texts (QueryRefused f) = ⊥
-StopsTexts texts (OfColumn f) = ⊥
+StopsTexts texts fault = OfBatch (λ file number refusal. (files : List FileData) × AllZip Reads texts files × IsBatchRefused files file number refusal) fault

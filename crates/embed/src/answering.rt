@@ -21,10 +21,8 @@ pub(crate) fn answer_table(
     ensures ok { IfOk result (IsAnswerTable query_text.now version.now.fields version.now.history) }
     ensures err { IfErr result (StopsAnswer query_text.now version.now.fields version.now.history) }
 {
-    match read_query_text(alloc, query_text) {
-        Ok(read) => named_table(alloc, &read, version),
-        Err(fault) => Err(fault),
-    }
+    let read = read_query_text(alloc, query_text)?;
+    named_table(alloc, &read, version)
 }
 
 /// The same for a query that was read.
@@ -32,10 +30,8 @@ fn named_table(alloc: Global, query: &QueryText, version: &Version) -> Result<Ta
     ensures ok { IfOk result (IsNamedAnswer (named query.now) version.now.fields version.now.history) }
     ensures err { IfErr result (IsUnanswered (named query.now) version.now.fields version.now.history) }
 {
-    match placed_query(alloc, query, version) {
-        Ok(placed) => placed_table(alloc, query, &placed, version),
-        Err(fault) => Err(fault),
-    }
+    let placed = placed_query(alloc, query, version)?;
+    placed_table(alloc, query, &placed, version)
 }
 
 /// The same for its query by positions.

@@ -14,7 +14,7 @@ pub mod snapshot;
 mod text;
 
 pub use loaded::Loaded;
-pub use reports::{ColumnFault, FileFault, RunFault, line_of};
+pub use reports::{ColumnFault, FileFault, RunFault};
 pub use snapshot::Snapshot;
 pub use table::{AddFault, Refusal};
 pub use text::{export, line_of, query, schema, stats, validate};

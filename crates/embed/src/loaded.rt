@@ -30,13 +30,9 @@ impl Loaded {
         ensures ok { IfOk result (λ t. HoldsFiles (map (λ t. t.now) texts.now) t.state.fields t.state.history) }
         ensures err { IfErr result (StopsTexts (map (λ t. t.now) texts.now)) }
     {
-        match read_files(alloc, texts) {
-            Ok(files) => match load_files(alloc, &files) {
-                Ok(state) => Ok(Loaded::of(state)),
-                Err(fault) => Err(fault),
-            },
-            Err(fault) => Err(fault),
-        }
+        let files = read_files(alloc, texts)?;
+        let state = load_files(alloc, &files)?;
+        Ok(Loaded::of(state))
     }
 
     /// The table of this state.

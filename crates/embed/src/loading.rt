@@ -24,10 +24,7 @@ pub(crate) fn load_files(alloc: Global, files: &[File]) -> Result<TableState, Ru
     let schema = first_schema(alloc, files)?;
     let mut table = TableState::new(alloc, schema)?;
     for place in 0..files.len() {
-        match add_batches(&mut table, place, files[place].batches()) {
-            Ok(()) => {}
-            Err(fault) => return Err(fault),
-        }
+        add_batches(&mut table, place, files[place].batches())?;
     }
     Ok(table)
 }

@@ -62,10 +62,8 @@ impl Snapshot {
         ensures ok { IfOk result (λ text. PrintsAnswer query_text.now self.now.version.fields self.now.version.history (string_bytes text)) }
         ensures err { IfErr result (StopsAnswer query_text.now self.now.version.fields self.now.version.history) }
     {
-        match read_query_text(alloc, query_text) {
-            Ok(read) => self.groups(alloc, &read),
-            Err(fault) => Err(fault),
-        }
+        let read = read_query_text(alloc, query_text)?;
+        self.groups(alloc, &read)
     }
 
     /// The same as a table of its own: a row for each group, a column for each item of its key and each aggregate. It has the types that
@@ -74,10 +72,7 @@ impl Snapshot {
         ensures ok { IfOk result (λ t. IsAnswerTable query_text.now self.now.version.fields self.now.version.history t.state) }
         ensures err { IfErr result (StopsAnswer query_text.now self.now.version.fields self.now.version.history) }
     {
-        match answer_table(alloc, query_text, &self.version) {
-            Ok(state) => Ok(Loaded::of(state)),
-            Err(fault) => Err(fault),
-        }
+        Ok(Loaded::of(answer_table(alloc, query_text, &self.version)?))
     }
 
     /// The same for a query that was read.

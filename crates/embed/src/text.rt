@@ -13,10 +13,7 @@ pub fn stats(alloc: Global, texts: &[&[u8]]) -> Result<String, RunFault>
     ensures ok { IfOk result (λ text. IsStats (map (λ t. t.now) texts.now) (string_bytes text)) }
     ensures err { IfErr result (StopsTexts (map (λ t. t.now) texts.now)) }
 {
-    match Loaded::open(alloc, texts) {
-        Ok(table) => table.stats(alloc, 1),
-        Err(fault) => Err(fault),
-    }
+    Loaded::open(alloc, texts)?.stats(alloc, 1)
 }
 
 /// What `schema` prints of the files of these texts: the fields of their table.
@@ -24,10 +21,7 @@ pub fn schema(alloc: Global, texts: &[&[u8]]) -> Result<String, RunFault>
     ensures ok { IfOk result (λ text. IsSchema (map (λ t. t.now) texts.now) (string_bytes text)) }
     ensures err { IfErr result (StopsTexts (map (λ t. t.now) texts.now)) }
 {
-    match Loaded::open(alloc, texts) {
-        Ok(table) => table.schema(alloc),
-        Err(fault) => Err(fault),
-    }
+    Loaded::open(alloc, texts)?.schema(alloc)
 }
 
 /// What `export` prints of the files of these texts: one file with all their batches.
@@ -35,10 +29,7 @@ pub fn export(alloc: Global, texts: &[&[u8]]) -> Result<String, RunFault>
     ensures ok { IfOk result (λ text. IsExport (map (λ t. t.now) texts.now) (string_bytes text)) }
     ensures err { IfErr result (StopsTexts (map (λ t. t.now) texts.now)) }
 {
-    match Loaded::open(alloc, texts) {
-        Ok(table) => table.export(alloc),
-        Err(fault) => Err(fault),
-    }
+    Loaded::open(alloc, texts)?.export(alloc)
 }
 
 /// What `query` prints of the files of these texts: a line for each group. The query's text is read before any file is.
@@ -46,13 +37,8 @@ pub fn query(alloc: Global, query_text: &[u8], texts: &[&[u8]]) -> Result<String
     ensures ok { IfOk result (λ text. IsAnswered query_text.now (map (λ t. t.now) texts.now) (string_bytes text)) }
     ensures err { IfErr result (StopsQuery query_text.now (map (λ t. t.now) texts.now)) }
 {
-    match read_query_text(alloc, query_text) {
-        Ok(read) => match Loaded::open(alloc, texts) {
-            Ok(table) => table.groups(alloc, &read),
-            Err(fault) => Err(fault),
-        },
-        Err(fault) => Err(fault),
-    }
+    let read = read_query_text(alloc, query_text)?;
+    Loaded::open(alloc, texts)?.groups(alloc, &read)
 }
 
 /// Whether the files of these texts can be loaded into one table, or the first fault that stands in the way.
@@ -60,10 +46,8 @@ pub fn validate(alloc: Global, texts: &[&[u8]]) -> Result<(), RunFault>
     ensures ok { OnOk result (AreLoadable (map (λ t. t.now) texts.now)) }
     ensures err { IfErr result (StopsTexts (map (λ t. t.now) texts.now)) }
 {
-    match Loaded::open(alloc, texts) {
-        Ok(_) => Ok(()),
-        Err(fault) => Err(fault),
-    }
+    Loaded::open(alloc, texts)?;
+    Ok(())
 }
 
 /// The line of a fault, as the program would report it of files whose names are their numbers, from 0. That memory ran out has

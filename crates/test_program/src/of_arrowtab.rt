@@ -22,7 +22,8 @@ mod words;
 
 use arrowtab::memory::{MemorySink, MemorySource};
 use arrowtab::{Command, Job, Output, job, run};
-use embed::{RunFault, line_of};
+use embed::RunFault;
+use reports::line_of;
 use std::alloc::{AllocError, Global};
 use std::process::Abort;
 use std::sync::Wait;

@@ -3,7 +3,7 @@ use Rattle.table.specs.Resolved.{named}
 use Rattle.reports.proofs.QueryLemmas.{unanswered_of}
 use Rattle.embed.proofs.answering.named_table.Goals as goal
 
-pub returns-in-Ok-clause-err : goal.returns-in-Ok-clause-err
-returns-in-Ok-clause-err c =
+pub returns-clause-err : goal.returns-clause-err
+returns-clause-err c =
     let v = c.args.version.now in
-    unanswered_of (named c.args.query.now) (query_shape c.in-Ok.placed) v.fields v.history c.in-Ok.ensures.ok c.placed_table.result c.placed_table.ensures.err
+    unanswered_of (named c.args.query.now) (query_shape c.in_ok-placed.placed) v.fields v.history c.in_ok-placed.ensures.ok c.placed_table.result c.placed_table.ensures.err

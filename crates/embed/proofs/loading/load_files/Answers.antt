@@ -1,4 +1,5 @@
 use Rattle.std.proofs.Common.{◌∙◌, ◌+◌, ◌++◌, List, map, subst, sym, take}
+use Rattle.std.proofs.lemmas.Result.{err_from_is_err_and}
 use Rattle.arrays.specs.Batch.{Batch}
 use Rattle.arrays.specs.Shape.{FieldShape}
 use Rattle.embed.specs.Loaded.{AddsAll, all_batches}
@@ -8,15 +9,18 @@ use Rattle.reports.specs.FileBatches.{batch_of}
 use Rattle.embed.proofs.LoadLemmas.{file_at, files-more, files-stop}
 use Rattle.embed.proofs.loading.load_files.Goals as goal
 
-pub returns-in-Err-clause-err : goal.returns-in-Err-clause-err
-returns-in-Err-clause-err c =
+pub returns-in_err-add_batches-clause-err : goal.returns-in_err-add_batches-clause-err
+returns-in_err-add_batches-clause-err c =
     let files = c.args.files.now in
     let at = c.loop-place in
     let f = c.index-files-place.result in
     let before = all_batches (take at.place (data_of files)) in
-    files-stop files c.requires at.place f (file_at files at.place f c.loop-place-test.true c.index-files-place.is) c.in-Err.fault
-    (subst (λ (fs : List FieldShape). StopsIn before (map batch_of f.batches) fs at.place c.in-Err.fault) at.invariant.fields
-    (subst (λ (bs : List Batch). StopsIn before (map batch_of bs) at.table.fields at.place c.in-Err.fault) c.batches.ensures.value (c.in-Err.ensures.err before at.invariant.loaded)))
+    let fault = c.in_err-add_batches.field-0.0 in
+    let e = err_from_is_err_and c.from_residual-in_err-add_batches.result c.from_residual-in_err-add_batches.ensures.1 in
+    rw (e.1, e.2)
+    (files-stop files c.requires at.place f (file_at files at.place f c.loop-place-test.true c.index-files-place.is) fault
+    (subst (λ (fs : List FieldShape). StopsIn before (map batch_of f.batches) fs at.place fault) at.invariant.fields
+    (subst (λ (bs : List Batch). StopsIn before (map batch_of bs) at.table.fields at.place fault) c.batches.ensures.value (c.in_err-add_batches.ensures.err before at.invariant.loaded))))
 
 pub loop-place-preserved : goal.loop-place-preserved
 loop-place-preserved c =
@@ -25,8 +29,8 @@ loop-place-preserved c =
     let f = c.index-files-place.result in
     let before = all_batches (take at.place (data_of files)) in
     let new = c.add_batches.new.table in record {
-      fields = c.in-Ok.ensures.fields ∙ at.invariant.fields;
-      loaded = subst (λ (fs : List FieldShape). AddsAll (all_batches (take (at.place + 1) (data_of files))) fs new.history) (sym c.in-Ok.ensures.fields)
+      fields = c.in_ok-add_batches.ensures.fields ∙ at.invariant.fields;
+      loaded = subst (λ (fs : List FieldShape). AddsAll (all_batches (take (at.place + 1) (data_of files))) fs new.history) (sym c.in_ok-add_batches.ensures.fields)
           (files-more files c.requires at.place f (file_at files at.place f c.loop-place-test.true c.index-files-place.is) at.table.fields new.history c.loop-place-test.true
-          (subst (λ (bs : List Batch). AddsAll (before ++ map batch_of bs) at.table.fields new.history) c.batches.ensures.value (c.in-Ok.ensures.loaded before at.invariant.loaded)));
+          (subst (λ (bs : List Batch). AddsAll (before ++ map batch_of bs) at.table.fields new.history) c.batches.ensures.value (c.in_ok-add_batches.ensures.loaded before at.invariant.loaded)));
     }
