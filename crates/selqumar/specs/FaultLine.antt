@@ -1,4 +1,4 @@
--- What a call leaves in the caller's buffer that fills a table or changes it.
+-- What a call tells of a fault that fills a table or changes it.
 use Rattle.std.specs.Prelude.{◌≡◌, ℕ, List, Bool, true, false}
 use Rattle.embed.specs.Line.{message}
 use Rattle.intake.specs.FlatFaults as flat
@@ -6,7 +6,6 @@ use Rattle.intake.specs.declared.fault.IntakeFault.{IntakeFault}
 use Rattle.intake.specs.declared.fault.IntakeFault.TheVariants.{Column, Flat, Refused}
 use Rattle.embed.specs.AddFaults as column
 use Rattle.embed.specs.Refusals as refusal
-use Rattle.selqumar.specs.Status.{IsTooShort, IsWritten}
 
 -- The fault is want of memory.
 abbrev pub wants_memory : IntakeFault → Bool
@@ -18,11 +17,3 @@ wants_memory fault = false
 -- The text is the line of a fault that stands, and isn't want of memory.
 abbrev pub IsFaultLine : (IntakeFault → Type 0) → List ℕ → Type 0
 IsFaultLine stands text = (fault : IntakeFault) × (wants_memory fault ≡ false) × stands fault × (what : List ℕ) × (text ≡ message what)
-
--- Status 1: such a line is in the buffer.
-abbrev pub IsTold : (IntakeFault → Type 0) → List ℕ → List ℕ → ℕ → Type 0
-IsTold stands old new needed = (text : List ℕ) × IsFaultLine stands text × IsWritten text old new needed
-
--- Status 2: the buffer is too short for such a line.
-abbrev pub IsUntold : (IntakeFault → Type 0) → List ℕ → List ℕ → ℕ → Type 0
-IsUntold stands old new needed = (text : List ℕ) × IsFaultLine stands text × IsTooShort text old new needed

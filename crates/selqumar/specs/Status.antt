@@ -1,5 +1,5 @@
 -- What a call leaves in the caller's buffer, by its status.
-use Rattle.std.specs.Prelude.{◌≡◌, ◌≢◌, ◌⊎◌, ◌<◌, ◌≤◌, ◌++◌, ℕ, List, [], Result, Ok, Err, drop, length, string_bytes}
+use Rattle.std.specs.Prelude.{◌≡◌, ◌≢◌, ◌⊎◌, ◌<◌, ◌≤◌, ◌++◌, ℕ, List, [], Option, None, Result, Ok, drop, length, string_bytes}
 use Rattle.std.specs.declared.alloc.Global.{Global}
 use Rattle.std.specs.declared.string.String.{String}
 use Rattle.embed.specs.RunFault.{RunFault}
@@ -18,50 +18,49 @@ pub record IsTooShort {A : Type 0} (items old new : List A) (needed : ℕ) : Typ
   pub short : length old < length items
   pub kept : new ≡ old
 
--- ---- by what an answer has to say
-
--- Status 0: such a text is in the buffer, or such nodes.
+-- Such items are in the buffer.
 abbrev pub IsGiven : {A : Type 0} → (List A → Type 0) → List A → List A → ℕ → Type 0
 IsGiven {A} says old new needed = (items : List A) × says items × IsWritten items old new needed
 
--- Status 2, where no fault can stand: the buffer is too short for such.
+-- The buffer is too short for such items.
 abbrev pub HasNoRoom : {A : Type 0} → (List A → Type 0) → List A → List A → ℕ → Type 0
 HasNoRoom {A} says old new needed = (items : List A) × says items × IsTooShort items old new needed
 
--- The text is the line of a fault that stands, and isn't want of memory.
-abbrev pub IsLine : (RunFault → Type 0) → List ℕ → Type 0
-IsLine stands text = (fault : RunFault) × (fault ≢ NoMemory) × stands fault × (text ≡ line_of_fault fault)
-
--- Status 1: such a line is in the buffer.
-abbrev pub IsReported : (RunFault → Type 0) → List ℕ → List ℕ → ℕ → Type 0
-IsReported stands old new needed = (text : List ℕ) × IsLine stands text × IsWritten text old new needed
-
--- Status 2: the buffer is too short for such a text, or for such a line.
-abbrev pub IsShort : (List ℕ → Type 0) → (RunFault → Type 0) → List ℕ → List ℕ → ℕ → Type 0
-IsShort says stands old new needed = (text : List ℕ) × (says text ⊎ IsLine stands text) × IsTooShort text old new needed
-
--- Status 3: nothing was written.
+-- Nothing was written.
 pub record IsKept {A : Type 0} (old new : List A) (needed_old needed_new : ℕ) : Type 0 where
   pub buffer : new ≡ old
   pub needed : needed_new ≡ needed_old
 
+-- What a call leaves that answers this status: the items that it gives, or that tell of a fault; a buffer that is too short for them; or nothing, where memory is wanting.
+pub record Leaves {A : Type 0} (gives tells : List A → Type 0) (status : ℕ) (old new : List A) (needed_old needed_new : ℕ) : Type 0 where
+  pub given : status ≡ 0 → IsGiven gives old new needed_new
+  pub fault : status ≡ 1 → IsGiven tells old new needed_new
+  pub short : status ≡ 2 → HasNoRoom (λ items. gives items ⊎ tells items) old new needed_new
+  pub memory : status ≡ 3 → IsKept old new needed_old needed_new
+
+-- Status 4, which is answered where nothing is open, and nowhere else: nothing was written.
+pub record IsClosed {T A : Type 0} (opened : Option T) (status : ℕ) (old new : List A) (needed_old needed_new : ℕ) : Type 0 where
+  pub closed : status ≡ 4 → (opened ≡ None) × IsKept old new needed_old needed_new
+  pub none : opened ≡ None → status ≡ 4
+
+-- ---- what is given, and what is told
+
+-- The text of an answer.
+abbrev pub IsTextOf : Result (String Global) RunFault → List ℕ → Type 0
+IsTextOf answered text = (given : String Global) × (answered ≡ Ok given) × (text ≡ string_bytes given)
+
+-- The line of a fault that stands, and isn't want of memory.
+abbrev pub IsLine : (RunFault → Type 0) → List ℕ → Type 0
+IsLine stands text = (fault : RunFault) × (fault ≢ NoMemory) × stands fault × (text ≡ line_of_fault fault)
+
+-- No items.
+abbrev pub IsNothing : {A : Type 0} → List A → Type 0
+IsNothing items = items ≡ []
+
+-- Nothing, where no fault can stand.
+abbrev pub Never : {A : Type 0} → List A → Type 0
+Never items = ⊥
+
 -- Nothing is said of files that can be loaded into one table.
 abbrev pub IsValid : List (List ℕ) → List ℕ → Type 0
 IsValid files text = (text ≡ []) × AreLoadable files
-
--- ---- the same by the answer itself
-
-abbrev pub Answered : Type 0
-Answered = Result (String Global) RunFault
-
-abbrev pub IsGivenBy : Answered → List ℕ → List ℕ → ℕ → Type 0
-IsGivenBy answered old new needed = (text : String Global) × (answered ≡ Ok text) × IsWritten (string_bytes text) old new needed
-
-abbrev pub IsLineBy : Answered → List ℕ → Type 0
-IsLineBy answered text = (fault : RunFault) × (fault ≢ NoMemory) × (answered ≡ Err fault) × (text ≡ line_of_fault fault)
-
-abbrev pub IsReportedBy : Answered → List ℕ → List ℕ → ℕ → Type 0
-IsReportedBy answered old new needed = (text : List ℕ) × IsLineBy answered text × IsWritten text old new needed
-
-abbrev pub IsShortBy : Answered → List ℕ → List ℕ → ℕ → Type 0
-IsShortBy answered old new needed = (text : List ℕ) × (((given : String Global) × (answered ≡ Ok given) × (text ≡ string_bytes given)) ⊎ IsLineBy answered text) × IsTooShort text old new needed

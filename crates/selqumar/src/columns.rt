@@ -1,9 +1,9 @@
 //! The columns of a snapshot, lent.
-ghost use Rattle.std.specs.Prelude.{◌≡◌, ◌≢◌, ◌≤◌, None, [], length};
+ghost use Rattle.std.specs.Prelude.{◌≡◌, ◌≢◌, ◌≤◌, [], length};
 ghost use Rattle.intake.specs.Schema.{Names};
 ghost use Rattle.selqumar.specs.Lent.{IsLent, IsLentOf};
 ghost use Rattle.selqumar.specs.Snapshot.{OfSnapshot};
-ghost use Rattle.selqumar.specs.Status.{HasNoRoom, IsGiven, IsKept};
+ghost use Rattle.selqumar.specs.Status.{HasNoRoom, IsClosed, IsGiven, IsKept, Leaves, Never};
 
 use crate::snapshot_handle::SnapshotHandle;
 use crate::status::{GIVEN, NO_BATCH, NO_MEMORY, NOT_OPEN, put_items};
@@ -27,8 +27,7 @@ pub extern "C" fn selqumar_lend<'a>(
     ensures lent { result ≡ 0 → IsGiven (λ lent. OfSnapshot (IsLent batch rows.new lent) snapshot.old.slot.snapshot) nodes.old nodes.new needed.new }
     ensures short { result ≡ 2 → HasNoRoom (λ lent. OfSnapshot (IsLentOf batch lent) snapshot.old.slot.snapshot) nodes.old nodes.new needed.new }
     ensures memory { result ≡ 3 → IsKept nodes.old nodes.new needed.old needed.new }
-    ensures closed { result ≡ 4 → (snapshot.old.slot.snapshot ≡ None) × IsKept nodes.old nodes.new needed.old needed.new }
-    ensures none { snapshot.old.slot.snapshot ≡ None → result ≡ 4 }
+    ensures closed { IsClosed snapshot.old.slot.snapshot result nodes.old nodes.new needed.old needed.new }
     ensures past { result ≡ 5 → OfSnapshot (λ s. length s.batches ≤ batch) snapshot.old.slot.snapshot × IsKept nodes.old nodes.new needed.old needed.new }
     ensures rows { result ≢ 0 → rows.new ≡ rows.old }
 {
@@ -79,11 +78,9 @@ pub extern "C" fn selqumar_lend_fields<'a>(
     needed: &mut usize,
 ) -> u32
     ensures status { (result ≤ 4) × (result ≢ 1) }
-    ensures lent { result ≡ 0 → IsGiven (λ lent. OfSnapshot (λ s. Names lent s.fields []) snapshot.old.slot.snapshot) nodes.old nodes.new needed.new }
-    ensures short { result ≡ 2 → HasNoRoom (λ lent. OfSnapshot (λ s. Names lent s.fields []) snapshot.old.slot.snapshot) nodes.old nodes.new needed.new }
-    ensures memory { result ≡ 3 → IsKept nodes.old nodes.new needed.old needed.new }
-    ensures closed { result ≡ 4 → (snapshot.old.slot.snapshot ≡ None) × IsKept nodes.old nodes.new needed.old needed.new }
-    ensures none { snapshot.old.slot.snapshot ≡ None → result ≡ 4 }
+    ensures leaves { Leaves (λ lent. OfSnapshot (λ s. Names lent s.fields []) snapshot.old.slot.snapshot) Never
+        result nodes.old nodes.new needed.old needed.new }
+    ensures closed { IsClosed snapshot.old.slot.snapshot result nodes.old nodes.new needed.old needed.new }
 {
     if !snapshot.is_open {
         return NOT_OPEN;
@@ -99,9 +96,7 @@ fn lend_fields<'a>(
     needed: &mut usize,
 ) -> u32
     ensures status { (result ≤ 3) × (result ≢ 1) }
-    ensures lent { result ≡ 0 → IsGiven (λ lent. Names lent snapshot.now.version.fields []) nodes.old nodes.new needed.new }
-    ensures short { result ≡ 2 → HasNoRoom (λ lent. Names lent snapshot.now.version.fields []) nodes.old nodes.new needed.new }
-    ensures memory { result ≡ 3 → IsKept nodes.old nodes.new needed.old needed.new }
+    ensures leaves { Leaves (λ lent. Names lent snapshot.now.version.fields []) Never result nodes.old nodes.new needed.old needed.new }
 {
     match fields_of(alloc, snapshot.version.schema()) {
         Ok(lent) => put_items(&lent, GIVEN, nodes, needed),

@@ -1,8 +1,8 @@
 //! Faults of tables that are filled, as lines in the caller's buffer.
-ghost use Rattle.std.specs.Prelude.{◌≡◌, ◌≢◌, ◌≤◌, Err, IfOk, IsErr, IsOk, List, OnOk, [], false, string_bytes, ℕ};
+ghost use Rattle.std.specs.Prelude.{◌≡◌, ◌≢◌, ◌≤◌, Err, IfOk, IsErr, IsOk, List, OnOk, false, string_bytes, ℕ};
 ghost use Rattle.embed.specs.Line.{message};
-ghost use Rattle.selqumar.specs.Status.{IsKept, IsWritten};
-ghost use Rattle.selqumar.specs.FaultLine.{IsTold, IsUntold, wants_memory};
+ghost use Rattle.selqumar.specs.Status.{IsNothing, Leaves, Never};
+ghost use Rattle.selqumar.specs.FaultLine.{IsFaultLine, wants_memory};
 
 use crate::status::{FAULT, NO_MEMORY, done, put_items};
 use arrays::NoMemory;
@@ -19,11 +19,8 @@ pub(crate) fn put_outcome<T: Drop>(
 ) -> u32
     ensures status { result ≤ 3 }
     ensures done { result ≡ 0 → IsOk outcome }
-    ensures given { result ≡ 0 → IsWritten [] out.old out.new needed.new }
+    ensures leaves { Leaves IsNothing (IsFaultLine (λ fault. outcome ≡ Err fault)) result out.old out.new needed.old needed.new }
     ensures refused { result ≢ 0 → IsErr outcome }
-    ensures fault { result ≡ 1 → IsTold (λ fault. outcome ≡ Err fault) out.old out.new needed.new }
-    ensures short { result ≡ 2 → IsUntold (λ fault. outcome ≡ Err fault) out.old out.new needed.new }
-    ensures memory { result ≡ 3 → IsKept out.old out.new needed.old needed.new }
 {
     match outcome {
         Ok(_) => done(needed),
@@ -40,9 +37,7 @@ pub(crate) fn put_fault(
 ) -> u32
     ensures status { result ≤ 3 }
     ensures refused { result ≢ 0 }
-    ensures fault { result ≡ 1 → IsTold (λ f. f ≡ fault) out.old out.new needed.new }
-    ensures short { result ≡ 2 → IsUntold (λ f. f ≡ fault) out.old out.new needed.new }
-    ensures memory { result ≡ 3 → IsKept out.old out.new needed.old needed.new }
+    ensures leaves { Leaves Never (IsFaultLine (λ f. f ≡ fault)) result out.old out.new needed.old needed.new }
 {
     match line_of(alloc, fault) {
         Ok(line) => put_items(line.as_bytes(), FAULT, out, needed),

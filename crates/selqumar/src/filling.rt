@@ -1,9 +1,9 @@
 //! Calls that fill a table, and that change it.
-ghost use Rattle.std.specs.Prelude.{◌≡◌, ◌≢◌, ◌≤◌, None, []};
+ghost use Rattle.std.specs.Prelude.{◌≡◌, ◌≢◌, ◌≤◌};
 ghost use Rattle.intake.specs.Filling.{IsAppended, IsEmptyOf, IsWidened, StopsAppend, StopsNew, StopsWidening};
 ghost use Rattle.selqumar.specs.Handle.{Became, OfOpen};
-ghost use Rattle.selqumar.specs.Status.{IsKept, IsWritten};
-ghost use Rattle.selqumar.specs.FaultLine.{IsTold, IsUntold};
+ghost use Rattle.selqumar.specs.Status.{IsClosed, IsNothing, Leaves, Never};
+ghost use Rattle.selqumar.specs.FaultLine.{IsFaultLine};
 ghost use Rattle.embed.specs.Compacted.{IsCompacted};
 
 use crate::fault_line::{put_fault, put_outcome};
@@ -26,11 +26,8 @@ pub extern "C" fn selqumar_new(
 ) -> u32
     ensures status { result ≤ 3 }
     ensures opened { result ≡ 0 → OfOpen (IsEmptyOf nodes.now) handle.new.slot.table }
-    ensures given { result ≡ 0 → IsWritten [] out.old out.new needed.new }
+    ensures leaves { Leaves IsNothing (IsFaultLine (StopsNew nodes.now)) result out.old out.new needed.old needed.new }
     ensures unchanged { result ≢ 0 → handle.new.slot.table ≡ handle.old.slot.table }
-    ensures fault { result ≡ 1 → IsTold (StopsNew nodes.now) out.old out.new needed.new }
-    ensures short { result ≡ 2 → IsUntold (StopsNew nodes.now) out.old out.new needed.new }
-    ensures memory { result ≡ 3 → IsKept out.old out.new needed.old needed.new }
 {
     match table_of(alloc, nodes) {
         Ok(state) => match Box::new(alloc, Loaded::of(state)) {
@@ -57,13 +54,10 @@ pub extern "C" fn selqumar_append(
 ) -> u32
     ensures status { result ≤ 4 }
     ensures added { result ≡ 0 → Became (IsAppended worker rows nodes.now) handle.old.slot.table handle.new.slot.table }
-    ensures given { result ≡ 0 → IsWritten [] out.old out.new needed.new }
+    ensures leaves { Leaves IsNothing (IsFaultLine (λ fault. OfOpen (λ t. StopsAppend rows nodes.now t fault) handle.old.slot.table))
+        result out.old out.new needed.old needed.new }
     ensures unchanged { result ≢ 0 → handle.new.slot.table ≡ handle.old.slot.table }
-    ensures fault { result ≡ 1 → IsTold (λ fault. OfOpen (λ t. StopsAppend rows nodes.now t fault) handle.old.slot.table) out.old out.new needed.new }
-    ensures short { result ≡ 2 → IsUntold (λ fault. OfOpen (λ t. StopsAppend rows nodes.now t fault) handle.old.slot.table) out.old out.new needed.new }
-    ensures memory { result ≡ 3 → IsKept out.old out.new needed.old needed.new }
-    ensures closed { result ≡ 4 → (handle.old.slot.table ≡ None) × IsKept out.old out.new needed.old needed.new }
-    ensures none { handle.old.slot.table ≡ None → result ≡ 4 }
+    ensures closed { IsClosed handle.old.slot.table result out.old out.new needed.old needed.new }
 {
     match handle.take(alloc) {
         Some(mut table) => {
@@ -87,13 +81,9 @@ pub extern "C" fn selqumar_add_column(
 ) -> u32
     ensures status { result ≤ 4 }
     ensures added { result ≡ 0 → Became (IsWidened nodes.now) handle.old.slot.table handle.new.slot.table }
-    ensures given { result ≡ 0 → IsWritten [] out.old out.new needed.new }
+    ensures leaves { Leaves IsNothing (IsFaultLine (StopsWidening nodes.now)) result out.old out.new needed.old needed.new }
     ensures unchanged { result ≢ 0 → handle.new.slot.table ≡ handle.old.slot.table }
-    ensures fault { result ≡ 1 → IsTold (StopsWidening nodes.now) out.old out.new needed.new }
-    ensures short { result ≡ 2 → IsUntold (StopsWidening nodes.now) out.old out.new needed.new }
-    ensures memory { result ≡ 3 → IsKept out.old out.new needed.old needed.new }
-    ensures closed { result ≡ 4 → (handle.old.slot.table ≡ None) × IsKept out.old out.new needed.old needed.new }
-    ensures none { handle.old.slot.table ≡ None → result ≡ 4 }
+    ensures closed { IsClosed handle.old.slot.table result out.old out.new needed.old needed.new }
 {
     match handle.take(alloc) {
         Some(mut table) => {
@@ -114,15 +104,11 @@ pub extern "C" fn selqumar_compact(
     out: &mut [u8],
     needed: &mut usize,
 ) -> u32
-    ensures status { result ≤ 4 }
+    ensures status { (result ≤ 4) × (result ≢ 1) × (result ≢ 2) }
     ensures joined { result ≡ 0 → Became (IsCompacted max_rows) handle.old.slot.table handle.new.slot.table }
-    ensures given { result ≡ 0 → IsWritten [] out.old out.new needed.new }
+    ensures leaves { Leaves IsNothing Never result out.old out.new needed.old needed.new }
     ensures unchanged { result ≢ 0 → handle.new.slot.table ≡ handle.old.slot.table }
-    ensures fault { result ≢ 1 }
-    ensures short { result ≢ 2 }
-    ensures memory { result ≡ 3 → IsKept out.old out.new needed.old needed.new }
-    ensures closed { result ≡ 4 → (handle.old.slot.table ≡ None) × IsKept out.old out.new needed.old needed.new }
-    ensures none { handle.old.slot.table ≡ None → result ≡ 4 }
+    ensures closed { IsClosed handle.old.slot.table result out.old out.new needed.old needed.new }
 {
     match handle.take(alloc) {
         Some(mut table) => {

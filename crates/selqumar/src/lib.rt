@@ -11,10 +11,10 @@
 //! Calls that lend columns have nodes in place of a text. What they lend stands until the snapshot's next call.
 #![tactic(auto)]
 
-ghost use Rattle.std.specs.Prelude.{◌≡◌, ◌≤◌, map};
+ghost use Rattle.std.specs.Prelude.{◌≤◌, map};
 ghost use Rattle.embed.specs.Output.{IsAnswered, IsExport, IsStats, StopsQuery};
 ghost use Rattle.embed.specs.Refused.{StopsTexts};
-ghost use Rattle.selqumar.specs.Status.{IsGiven, IsKept, IsReported, IsShort, IsValid};
+ghost use Rattle.selqumar.specs.Status.{IsLine, IsValid, Leaves};
 
 mod boxed;
 mod columns;
@@ -41,10 +41,8 @@ pub extern "C" fn selqumar_stats(
     needed: &mut usize,
 ) -> u32
     ensures status { result ≤ 3 }
-    ensures given { result ≡ 0 → IsGiven (IsStats (map (λ f. f.now) files.now)) out.old out.new needed.new }
-    ensures fault { result ≡ 1 → IsReported (StopsTexts (map (λ f. f.now) files.now)) out.old out.new needed.new }
-    ensures short { result ≡ 2 → IsShort (IsStats (map (λ f. f.now) files.now)) (StopsTexts (map (λ f. f.now) files.now)) out.old out.new needed.new }
-    ensures memory { result ≡ 3 → IsKept out.old out.new needed.old needed.new }
+    ensures leaves { Leaves (IsStats (map (λ f. f.now) files.now)) (IsLine (StopsTexts (map (λ f. f.now) files.now)))
+        result out.old out.new needed.old needed.new }
 {
     put(alloc, embed::stats(alloc, files), out, needed)
 }
@@ -58,10 +56,8 @@ pub extern "C" fn selqumar_export(
     needed: &mut usize,
 ) -> u32
     ensures status { result ≤ 3 }
-    ensures given { result ≡ 0 → IsGiven (IsExport (map (λ f. f.now) files.now)) out.old out.new needed.new }
-    ensures fault { result ≡ 1 → IsReported (StopsTexts (map (λ f. f.now) files.now)) out.old out.new needed.new }
-    ensures short { result ≡ 2 → IsShort (IsExport (map (λ f. f.now) files.now)) (StopsTexts (map (λ f. f.now) files.now)) out.old out.new needed.new }
-    ensures memory { result ≡ 3 → IsKept out.old out.new needed.old needed.new }
+    ensures leaves { Leaves (IsExport (map (λ f. f.now) files.now)) (IsLine (StopsTexts (map (λ f. f.now) files.now)))
+        result out.old out.new needed.old needed.new }
 {
     put(alloc, embed::export(alloc, files), out, needed)
 }
@@ -76,11 +72,8 @@ pub extern "C" fn selqumar_query(
     needed: &mut usize,
 ) -> u32
     ensures status { result ≤ 3 }
-    ensures given { result ≡ 0 → IsGiven (IsAnswered query.now (map (λ f. f.now) files.now)) out.old out.new needed.new }
-    ensures fault { result ≡ 1 → IsReported (StopsQuery query.now (map (λ f. f.now) files.now)) out.old out.new needed.new }
-    ensures short { result ≡ 2 → IsShort (IsAnswered query.now (map (λ f. f.now) files.now)) (StopsQuery query.now (map (λ f. f.now) files.now))
-        out.old out.new needed.new }
-    ensures memory { result ≡ 3 → IsKept out.old out.new needed.old needed.new }
+    ensures leaves { Leaves (IsAnswered query.now (map (λ f. f.now) files.now)) (IsLine (StopsQuery query.now (map (λ f. f.now) files.now)))
+        result out.old out.new needed.old needed.new }
 {
     put(alloc, embed::query(alloc, query, files), out, needed)
 }
@@ -94,10 +87,8 @@ pub extern "C" fn selqumar_validate(
     needed: &mut usize,
 ) -> u32
     ensures status { result ≤ 3 }
-    ensures given { result ≡ 0 → IsGiven (IsValid (map (λ f. f.now) files.now)) out.old out.new needed.new }
-    ensures fault { result ≡ 1 → IsReported (StopsTexts (map (λ f. f.now) files.now)) out.old out.new needed.new }
-    ensures short { result ≡ 2 → IsShort (IsValid (map (λ f. f.now) files.now)) (StopsTexts (map (λ f. f.now) files.now)) out.old out.new needed.new }
-    ensures memory { result ≡ 3 → IsKept out.old out.new needed.old needed.new }
+    ensures leaves { Leaves (IsValid (map (λ f. f.now) files.now)) (IsLine (StopsTexts (map (λ f. f.now) files.now)))
+        result out.old out.new needed.old needed.new }
 {
     put(alloc, validity(alloc, files), out, needed)
 }

@@ -1,9 +1,9 @@
 //! Calls on a table that stays open between them.
-ghost use Rattle.std.specs.Prelude.{◌≡◌, ◌≢◌, ◌≤◌, List, None, [], map, ℕ};
+ghost use Rattle.std.specs.Prelude.{◌≡◌, ◌≢◌, ◌≤◌, List, None, map, ℕ};
 ghost use Rattle.embed.specs.Output.{IsAnswered, IsExport, IsStats, StopsQuery};
 ghost use Rattle.embed.specs.Refused.{StopsTexts};
 ghost use Rattle.selqumar.specs.Handle.{IsAnswerOf, IsExportOf, IsOpenOver, IsStatsOf, StopsAnswerOf};
-ghost use Rattle.selqumar.specs.Status.{IsGiven, IsKept, IsReported, IsShort, IsWritten};
+ghost use Rattle.selqumar.specs.Status.{IsClosed, IsLine, IsNothing, Leaves, Never};
 
 use crate::handle::Handle;
 use crate::status::{NO_MEMORY, NOT_OPEN, done, put};
@@ -21,11 +21,8 @@ pub extern "C" fn selqumar_open(
 ) -> u32
     ensures status { result ≤ 3 }
     ensures opened { result ≡ 0 → IsOpenOver (map (λ f. f.now) files.now) handle.new.slot.table }
-    ensures given { result ≡ 0 → IsWritten [] out.old out.new needed.new }
+    ensures leaves { Leaves IsNothing (IsLine (StopsTexts (map (λ f. f.now) files.now))) result out.old out.new needed.old needed.new }
     ensures unchanged { result ≢ 0 → handle.new.slot.table ≡ handle.old.slot.table }
-    ensures fault { result ≡ 1 → IsReported (StopsTexts (map (λ f. f.now) files.now)) out.old out.new needed.new }
-    ensures short { result ≡ 2 → IsShort (λ text. ⊥) (StopsTexts (map (λ f. f.now) files.now)) out.old out.new needed.new }
-    ensures memory { result ≡ 3 → IsKept out.old out.new needed.old needed.new }
 {
     match Loaded::open(alloc, files) {
         Ok(table) => match Box::new(alloc, table) {
@@ -48,13 +45,9 @@ pub extern "C" fn selqumar_stats_of(
     out: &mut [u8],
     needed: &mut usize,
 ) -> u32
-    ensures status { result ≤ 4 }
-    ensures given { result ≡ 0 → IsGiven (IsStatsOf workers handle.old.slot.table) out.old out.new needed.new }
-    ensures fault { result ≢ 1 }
-    ensures short { result ≡ 2 → IsShort (IsStatsOf workers handle.old.slot.table) (λ fault. ⊥) out.old out.new needed.new }
-    ensures memory { result ≡ 3 → IsKept out.old out.new needed.old needed.new }
-    ensures closed { result ≡ 4 → (handle.old.slot.table ≡ None) × IsKept out.old out.new needed.old needed.new }
-    ensures none { handle.old.slot.table ≡ None → result ≡ 4 }
+    ensures status { (result ≤ 4) × (result ≢ 1) }
+    ensures leaves { Leaves (IsStatsOf workers handle.old.slot.table) Never result out.old out.new needed.old needed.new }
+    ensures closed { IsClosed handle.old.slot.table result out.old out.new needed.old needed.new }
     ensures unchanged { handle.new.slot.table ≡ handle.old.slot.table }
 {
     match handle.take(alloc) {
@@ -75,16 +68,11 @@ pub extern "C" fn selqumar_open_stats(
     out: &mut [u8],
     needed: &mut usize,
 ) -> u32
-    ensures status { result ≤ 4 }
-    ensures given { result ≡ 0 → IsGiven (IsStatsOf 1 handle.old.slot.table) out.old out.new needed.new }
-    ensures given_of_files { (texts : List (List ℕ)) → IsOpenOver texts handle.old.slot.table → result ≡ 0 → IsGiven (IsStats texts) out.old out.new needed.new }
-    ensures fault { result ≢ 1 }
-    ensures short { result ≡ 2 → IsShort (IsStatsOf 1 handle.old.slot.table) (λ fault. ⊥) out.old out.new needed.new }
-    ensures short_of_files { (texts : List (List ℕ)) → IsOpenOver texts handle.old.slot.table → result ≡ 2
-        → IsShort (IsStats texts) (λ fault. ⊥) out.old out.new needed.new }
-    ensures memory { result ≡ 3 → IsKept out.old out.new needed.old needed.new }
-    ensures closed { result ≡ 4 → (handle.old.slot.table ≡ None) × IsKept out.old out.new needed.old needed.new }
-    ensures none { handle.old.slot.table ≡ None → result ≡ 4 }
+    ensures status { (result ≤ 4) × (result ≢ 1) }
+    ensures leaves { Leaves (IsStatsOf 1 handle.old.slot.table) Never result out.old out.new needed.old needed.new }
+    ensures of_files { (texts : List (List ℕ)) → IsOpenOver texts handle.old.slot.table → Leaves (IsStats texts) Never
+        result out.old out.new needed.old needed.new }
+    ensures closed { IsClosed handle.old.slot.table result out.old out.new needed.old needed.new }
     ensures unchanged { handle.new.slot.table ≡ handle.old.slot.table }
 {
     selqumar_stats_of(alloc, handle, 1, out, needed)
@@ -98,16 +86,11 @@ pub extern "C" fn selqumar_open_export(
     out: &mut [u8],
     needed: &mut usize,
 ) -> u32
-    ensures status { result ≤ 4 }
-    ensures given { result ≡ 0 → IsGiven (IsExportOf handle.old.slot.table) out.old out.new needed.new }
-    ensures given_of_files { (texts : List (List ℕ)) → IsOpenOver texts handle.old.slot.table → result ≡ 0 → IsGiven (IsExport texts) out.old out.new needed.new }
-    ensures fault { result ≢ 1 }
-    ensures short { result ≡ 2 → IsShort (IsExportOf handle.old.slot.table) (λ fault. ⊥) out.old out.new needed.new }
-    ensures short_of_files { (texts : List (List ℕ)) → IsOpenOver texts handle.old.slot.table → result ≡ 2
-        → IsShort (IsExport texts) (λ fault. ⊥) out.old out.new needed.new }
-    ensures memory { result ≡ 3 → IsKept out.old out.new needed.old needed.new }
-    ensures closed { result ≡ 4 → (handle.old.slot.table ≡ None) × IsKept out.old out.new needed.old needed.new }
-    ensures none { handle.old.slot.table ≡ None → result ≡ 4 }
+    ensures status { (result ≤ 4) × (result ≢ 1) }
+    ensures leaves { Leaves (IsExportOf handle.old.slot.table) Never result out.old out.new needed.old needed.new }
+    ensures of_files { (texts : List (List ℕ)) → IsOpenOver texts handle.old.slot.table → Leaves (IsExport texts) Never
+        result out.old out.new needed.old needed.new }
+    ensures closed { IsClosed handle.old.slot.table result out.old out.new needed.old needed.new }
     ensures unchanged { handle.new.slot.table ≡ handle.old.slot.table }
 {
     match handle.take(alloc) {
@@ -130,18 +113,11 @@ pub extern "C" fn selqumar_open_query(
     needed: &mut usize,
 ) -> u32
     ensures status { result ≤ 4 }
-    ensures given { result ≡ 0 → IsGiven (IsAnswerOf query.now handle.old.slot.table) out.old out.new needed.new }
-    ensures given_of_files { (texts : List (List ℕ)) → IsOpenOver texts handle.old.slot.table → result ≡ 0 → IsGiven (IsAnswered query.now texts) out.old out.new needed.new }
-    ensures fault { result ≡ 1 → IsReported (StopsAnswerOf query.now handle.old.slot.table) out.old out.new needed.new }
-    ensures fault_of_files { (texts : List (List ℕ)) → IsOpenOver texts handle.old.slot.table → result ≡ 1
-        → IsReported (StopsQuery query.now texts) out.old out.new needed.new }
-    ensures short { result ≡ 2 → IsShort (IsAnswerOf query.now handle.old.slot.table) (StopsAnswerOf query.now handle.old.slot.table)
-        out.old out.new needed.new }
-    ensures short_of_files { (texts : List (List ℕ)) → IsOpenOver texts handle.old.slot.table → result ≡ 2
-        → IsShort (IsAnswered query.now texts) (StopsQuery query.now texts) out.old out.new needed.new }
-    ensures memory { result ≡ 3 → IsKept out.old out.new needed.old needed.new }
-    ensures closed { result ≡ 4 → (handle.old.slot.table ≡ None) × IsKept out.old out.new needed.old needed.new }
-    ensures none { handle.old.slot.table ≡ None → result ≡ 4 }
+    ensures leaves { Leaves (IsAnswerOf query.now handle.old.slot.table) (IsLine (StopsAnswerOf query.now handle.old.slot.table))
+        result out.old out.new needed.old needed.new }
+    ensures of_files { (texts : List (List ℕ)) → IsOpenOver texts handle.old.slot.table → Leaves (IsAnswered query.now texts) (IsLine (StopsQuery query.now texts))
+        result out.old out.new needed.old needed.new }
+    ensures closed { IsClosed handle.old.slot.table result out.old out.new needed.old needed.new }
     ensures unchanged { handle.new.slot.table ≡ handle.old.slot.table }
 {
     match handle.take(alloc) {

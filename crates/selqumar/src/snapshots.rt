@@ -1,7 +1,7 @@
 //! Calls that make snapshots of a table, and calls on one.
-ghost use Rattle.std.specs.Prelude.{◌≡◌, ◌≢◌, ◌⊎◌, ◌≤◌, None, [], length};
+ghost use Rattle.std.specs.Prelude.{◌≡◌, ◌≢◌, ◌⊎◌, ◌≤◌, None, length};
 ghost use Rattle.selqumar.specs.Snapshot.{IsAnswerIn, IsAnswerTableIn, IsExportIn, IsOpened, IsSnapshotOf, IsStatsIn, OfSnapshot, StopsAnswerIn};
-ghost use Rattle.selqumar.specs.Status.{IsGiven, IsKept, IsReported, IsShort, IsWritten};
+ghost use Rattle.selqumar.specs.Status.{IsClosed, IsLine, IsNothing, Leaves, Never};
 
 use crate::handle::Handle;
 use crate::snapshot_handle::SnapshotHandle;
@@ -98,13 +98,9 @@ pub extern "C" fn selqumar_snapshot_stats(
     out: &mut [u8],
     needed: &mut usize,
 ) -> u32
-    ensures status { result ≤ 4 }
-    ensures given { result ≡ 0 → IsGiven (IsStatsIn workers snapshot.old.slot.snapshot) out.old out.new needed.new }
-    ensures fault { result ≢ 1 }
-    ensures short { result ≡ 2 → IsShort (IsStatsIn workers snapshot.old.slot.snapshot) (λ fault. ⊥) out.old out.new needed.new }
-    ensures memory { result ≡ 3 → IsKept out.old out.new needed.old needed.new }
-    ensures closed { result ≡ 4 → (snapshot.old.slot.snapshot ≡ None) × IsKept out.old out.new needed.old needed.new }
-    ensures none { snapshot.old.slot.snapshot ≡ None → result ≡ 4 }
+    ensures status { (result ≤ 4) × (result ≢ 1) }
+    ensures leaves { Leaves (IsStatsIn workers snapshot.old.slot.snapshot) Never result out.old out.new needed.old needed.new }
+    ensures closed { IsClosed snapshot.old.slot.snapshot result out.old out.new needed.old needed.new }
     ensures unchanged { snapshot.new.slot.snapshot ≡ snapshot.old.slot.snapshot }
 {
     if !snapshot.is_open {
@@ -122,13 +118,9 @@ pub extern "C" fn selqumar_snapshot_export(
     out: &mut [u8],
     needed: &mut usize,
 ) -> u32
-    ensures status { result ≤ 4 }
-    ensures given { result ≡ 0 → IsGiven (IsExportIn snapshot.old.slot.snapshot) out.old out.new needed.new }
-    ensures fault { result ≢ 1 }
-    ensures short { result ≡ 2 → IsShort (IsExportIn snapshot.old.slot.snapshot) (λ fault. ⊥) out.old out.new needed.new }
-    ensures memory { result ≡ 3 → IsKept out.old out.new needed.old needed.new }
-    ensures closed { result ≡ 4 → (snapshot.old.slot.snapshot ≡ None) × IsKept out.old out.new needed.old needed.new }
-    ensures none { snapshot.old.slot.snapshot ≡ None → result ≡ 4 }
+    ensures status { (result ≤ 4) × (result ≢ 1) }
+    ensures leaves { Leaves (IsExportIn snapshot.old.slot.snapshot) Never result out.old out.new needed.old needed.new }
+    ensures closed { IsClosed snapshot.old.slot.snapshot result out.old out.new needed.old needed.new }
     ensures unchanged { snapshot.new.slot.snapshot ≡ snapshot.old.slot.snapshot }
 {
     if !snapshot.is_open {
@@ -148,13 +140,9 @@ pub extern "C" fn selqumar_snapshot_query(
     needed: &mut usize,
 ) -> u32
     ensures status { result ≤ 4 }
-    ensures given { result ≡ 0 → IsGiven (IsAnswerIn query.now snapshot.old.slot.snapshot) out.old out.new needed.new }
-    ensures fault { result ≡ 1 → IsReported (StopsAnswerIn query.now snapshot.old.slot.snapshot) out.old out.new needed.new }
-    ensures short { result ≡ 2 → IsShort (IsAnswerIn query.now snapshot.old.slot.snapshot) (StopsAnswerIn query.now snapshot.old.slot.snapshot)
-        out.old out.new needed.new }
-    ensures memory { result ≡ 3 → IsKept out.old out.new needed.old needed.new }
-    ensures closed { result ≡ 4 → (snapshot.old.slot.snapshot ≡ None) × IsKept out.old out.new needed.old needed.new }
-    ensures none { snapshot.old.slot.snapshot ≡ None → result ≡ 4 }
+    ensures leaves { Leaves (IsAnswerIn query.now snapshot.old.slot.snapshot) (IsLine (StopsAnswerIn query.now snapshot.old.slot.snapshot))
+        result out.old out.new needed.old needed.new }
+    ensures closed { IsClosed snapshot.old.slot.snapshot result out.old out.new needed.old needed.new }
     ensures unchanged { snapshot.new.slot.snapshot ≡ snapshot.old.slot.snapshot }
 {
     if !snapshot.is_open {
@@ -177,13 +165,9 @@ pub extern "C" fn selqumar_answer(
 ) -> u32
     ensures status { result ≤ 4 }
     ensures opened { result ≡ 0 → IsAnswerTableIn query.now snapshot.old.slot.snapshot handle.new.slot.table }
-    ensures given { result ≡ 0 → IsWritten [] out.old out.new needed.new }
+    ensures leaves { Leaves IsNothing (IsLine (StopsAnswerIn query.now snapshot.old.slot.snapshot)) result out.old out.new needed.old needed.new }
     ensures kept { result ≢ 0 → handle.new.slot.table ≡ handle.old.slot.table }
-    ensures fault { result ≡ 1 → IsReported (StopsAnswerIn query.now snapshot.old.slot.snapshot) out.old out.new needed.new }
-    ensures short { result ≡ 2 → IsShort (λ text. ⊥) (StopsAnswerIn query.now snapshot.old.slot.snapshot) out.old out.new needed.new }
-    ensures memory { result ≡ 3 → IsKept out.old out.new needed.old needed.new }
-    ensures closed { result ≡ 4 → (snapshot.old.slot.snapshot ≡ None) × IsKept out.old out.new needed.old needed.new }
-    ensures none { snapshot.old.slot.snapshot ≡ None → result ≡ 4 }
+    ensures closed { IsClosed snapshot.old.slot.snapshot result out.old out.new needed.old needed.new }
     ensures unchanged { snapshot.new.slot.snapshot ≡ snapshot.old.slot.snapshot }
 {
     if !snapshot.is_open {

@@ -1,7 +1,7 @@
 //! Statuses of calls, and what they leave in the caller's buffer.
-ghost use Rattle.std.specs.Prelude.{◌≡◌, ◌⊎◌, ◌≤◌, IfErr, IfOk, map, string_bytes};
+ghost use Rattle.std.specs.Prelude.{◌≡◌, ◌⊎◌, ◌≤◌, Err, IfErr, IfOk, map, string_bytes};
 ghost use Rattle.embed.specs.Refused.{StopsTexts};
-ghost use Rattle.selqumar.specs.Status.{IsGivenBy, IsKept, IsReportedBy, IsShortBy, IsTooShort, IsValid, IsWritten};
+ghost use Rattle.selqumar.specs.Status.{IsLine, IsTextOf, IsTooShort, IsValid, IsWritten, Leaves};
 
 use embed::{RunFault, line_of, validate};
 use std::alloc::Global;
@@ -32,10 +32,7 @@ pub(crate) fn put(
     needed: &mut usize,
 ) -> u32
     ensures status { result ≤ 3 }
-    ensures given { result ≡ 0 → IsGivenBy answered out.old out.new needed.new }
-    ensures fault { result ≡ 1 → IsReportedBy answered out.old out.new needed.new }
-    ensures short { result ≡ 2 → IsShortBy answered out.old out.new needed.new }
-    ensures memory { result ≡ 3 → IsKept out.old out.new needed.old needed.new }
+    ensures leaves { Leaves (IsTextOf answered) (IsLine (λ fault. answered ≡ Err fault)) result out.old out.new needed.old needed.new }
 {
     match answered {
         Ok(text) => put_items(text.as_bytes(), GIVEN, out, needed),
@@ -77,8 +74,6 @@ pub(crate) fn validity(alloc: Global, files: &[&[u8]]) -> Result<String, RunFaul
     ensures ok { IfOk result (λ text. IsValid (map (λ f. f.now) files.now) (string_bytes text)) }
     ensures err { IfErr result (StopsTexts (map (λ f. f.now) files.now)) }
 {
-    match validate(alloc, files) {
-        Ok(()) => Ok(String::new(alloc)),
-        Err(fault) => Err(fault),
-    }
+    validate(alloc, files)?;
+    Ok(String::new(alloc))
 }

@@ -1,19 +1,16 @@
 use Rattle.std.proofs.Common.{List, arith, inl, refl, string_bytes, subst, ℕ}
-use Rattle.selqumar.specs.Status.{IsTooShort, IsWritten}
+use Rattle.std.proofs.lemmas.Grind.{common_steps}
+use Rattle.selqumar.specs.Status.{IsTextOf, IsTooShort, IsWritten}
 use Rattle.selqumar.proofs.status.put.Goals as goal
 
-pub returns-in-Ok-clause-given : goal.returns-in-Ok-clause-given
-returns-in-Ok-clause-given c = λ zero.
-    let put = c.put_items in (
-      c.in-Ok.text,
-      c.in-Ok.is,
-      subst (λ (t : List ℕ). IsWritten t c.args.out.now put.new.out put.new.needed) c.as_bytes.ensures.value (put.ensures.written (omega (arith, zero))),
-    )
-
-pub returns-in-Ok-clause-short : goal.returns-in-Ok-clause-short
-returns-in-Ok-clause-short c = λ two.
-    let put = c.put_items in (
-      string_bytes c.in-Ok.text,
-      inl (c.in-Ok.text, c.in-Ok.is, refl),
-      subst (λ (t : List ℕ). IsTooShort t c.args.out.now put.new.out put.new.needed) c.as_bytes.ensures.value (put.ensures.short two),
-    )
+pub returns-in-Ok-clause-leaves : goal.returns-in-Ok-clause-leaves
+returns-in-Ok-clause-leaves c =
+    let put = c.put_items in
+    let text = string_bytes c.in-Ok.text in
+    let is : IsTextOf c.args.answered text = (c.in-Ok.text, c.in-Ok.is, refl) in
+    let value = c.as_bytes.ensures.value in record {
+      given = λ zero. (text, is, subst (λ (t : List ℕ). IsWritten t c.args.out.now put.new.out put.new.needed) value (put.ensures.written (omega (arith, zero))));
+      fault = grind (arith, common_steps);
+      short = λ two. (text, inl is, subst (λ (t : List ℕ). IsTooShort t c.args.out.now put.new.out put.new.needed) value (put.ensures.short two));
+      memory = grind (arith, common_steps);
+    }
