@@ -15,7 +15,7 @@ import sys
 
 TOP = os.path.dirname(os.path.dirname(os.path.abspath(__file__)))
 # So many were left when this was last lowered.
-LEFT = 619
+LEFT = 615
 
 USE = re.compile(r"^(pub )?use ([^\s{]+)\.\{([^}]*)\}", re.M)
 PASSED = re.compile(r"^pub use (\S+)$", re.M)
