@@ -8,7 +8,7 @@ pub mod builder;
 use crate::bits::Bits;
 use crate::buffer::Buffer;
 use crate::memory::NoMemory;
-use crate::places::{Both, Either, Flipped, Given, Places, Without};
+use crate::places::{Both, Either, Flipped, Given, Places};
 use std::alloc::Global;
 use std::marker::Model;
 
@@ -78,7 +78,13 @@ impl BitmapBuf {
         requires { length a.now ≡ length b.now }
         ensures { IfOk result (λ m. m ≡ place_by_place (λ x y. x && not y) a.now b.now) }
     {
-        BitmapBuf::from_places(alloc, &Without { a, b })
+        BitmapBuf::from_places(
+            alloc,
+            &Both {
+                a,
+                b: &Flipped { a: b },
+            },
+        )
     }
 
     /// Where there is 0.

@@ -15,4 +15,4 @@ pub use bits::Bits;
 pub use buffer::Buffer;
 pub use lanes::lanes_of;
 pub use memory::NoMemory;
-pub use places::Places;
+pub use places::{Both, Either, Flipped, Ones, Places};

@@ -1,11 +1,12 @@
 -- What operators make of columns.
-use Rattle.std.proofs.Common.{◌≡◌, ◌∙◌, ℕ, ◌&&◌, ℤ, List, length, Bool, true, false, not, cond, eqb, is_some, replicate, zero-add, Option, Some, None, Result, Ok, Err, IfErr, IfOk, ap, sym, refl, subst, true≢false, eq-eqb, inl, inr}
+use Rattle.std.proofs.Common.{◌≡◌, ◌∙◌, ℕ, ◌&&◌, ℤ, List, map, length, Bool, true, false, not, cond, eqb, is_some, replicate, zero-add, Option, Some, None, Result, Ok, Err, IfErr, IfOk, ap, sym, refl, subst, true≢false, eq-eqb, inl, inr}
 use Rattle.arrays.specs.Item.{Item, null, int, boolean, text, list, is_null}
 use Rattle.arrays.specs.Slot.{holds_at, item_at}
 use Rattle.arrays.specs.Number.{is_of_type}
 use Rattle.arrays.specs.IntType.{IntType}
 use Rattle.kernels.specs.Truth.{truth_at, truths_of}
 use Rattle.std.proofs.lemmas.List.{length-replicate, get_or-replicate}
+use Rattle.std.specs.List.{range_with_len}
 use Rattle.std.proofs.lemmas.List.FromFn.{get_or-map-range_with_len, length-map-range_with_len}
 use Rattle.std.specs.Prelude.{option_and_then}
 use Rattle.arrays.specs.Seen.{Seen}
@@ -302,13 +303,13 @@ compared_item false o c t (text u) named = comparison_value o c (text u) (text t
 compared_item false o c t (list l) named = comparison_value o c (list l) (text t) named
 
 -- A column of texts beside a text.
-pub beside_made : (first : Bool) (o : Op) (c : CmpOp) (t : List ℕ) (v r : Seen) → comparison_of o ≡ Some c → is_some (in_order first (sorts.sort_of_two o) Text (sort_of_kind v.kind)) ≡ true
-    → r ≡ shown kind.boolean (truths_of (λ i. holds_at v i) (λ i. meets c (in_order first order (text t) (item_at v.items i))) (length v.items))
+pub beside_made : (first : Bool) (o : Op) (c : CmpOp) (t : List ℕ) (v r : Seen) (n : ℕ) → n ≡ length v.items → comparison_of o ≡ Some c → is_some (in_order first (sorts.sort_of_two o) Text (sort_of_kind v.kind)) ≡ true
+    → r ≡ shown kind.boolean (truths_of (λ i. holds_at v i) (λ i. meets c (in_order first order (text t) (item_at v.items i))) n)
     → AreMade (in_order first (sorts.sort_of_two o) Text (sort_of_kind v.kind)) (λ i. in_order first (of_two o) (text t) (item_at v.items i)) (length v.items) (Column (Made r))
-beside_made first o c t v r named h is =
+beside_made first o c t v r n size named h is =
     let made : ℕ → Item = truth_at (λ i. holds_at v i) (λ i. meets c (in_order first order (text t) (item_at v.items i))) in
     truth_made (in_order first (sorts.sort_of_two o) Text (sort_of_kind v.kind)) (λ i. in_order first (of_two o) (text t) (item_at v.items i)) (length v.items) r (compared_sort first o c v.kind named h)
-    (subst (IsPlaced kind.boolean (λ i. in_order first (of_two o) (text t) (item_at v.items i)) (length v.items)) (sym is) (record {
+    (subst (IsPlaced kind.boolean (λ i. in_order first (of_two o) (text t) (item_at v.items i)) (length v.items)) (sym (is ∙ ap (λ m. shown kind.boolean (map made (range_with_len 0 m))) size)) (record {
       kind = refl;
       len = length-map-range_with_len made 0 (length v.items);
       each = λ i below. get_or-map-range_with_len made 0 (length v.items) i i null below (zero-add i) ∙ compared_item first o c t (item_at v.items i) named;

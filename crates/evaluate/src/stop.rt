@@ -1,5 +1,8 @@
 //! Why an expression has no values.
 
+ghost use Rattle.std.specs.Prelude.{◌≡◌};
+ghost use Rattle.evaluate.specs.declared.stop.Stop.TheVariants as stops;
+
 use arrays::NoMemory;
 
 /// Why an expression has no values at some rows.
@@ -12,10 +15,7 @@ pub enum Stop {
 }
 
 impl From<NoMemory> for Stop {
-    ghost use Rattle.std.specs.Prelude.{◌≡◌};
-    ghost use Rattle.evaluate.specs.declared.stop.Stop.TheVariants as stop;
-
-    ghost from_gives = { λ _ e. e ≡ stop.NoMemory };
+    ghost from_gives = { λ _ e. e ≡ stops.NoMemory };
 
     fn from(_: NoMemory) -> Stop {
         Stop::NoMemory

@@ -2,7 +2,7 @@
 
 ghost use Rattle.std.specs.Prelude.{◌≡◌, ◌≤◌, true, is_some, length, Some, IfOk, IfErr};
 ghost use Rattle.arrays.specs.Item as item;
-ghost use Rattle.arrays.specs.Slot.{holds_at, is_text, item_at};
+ghost use Rattle.arrays.specs.Slot.{is_text, item_at};
 ghost use Rattle.arrays.specs.Order.{order};
 ghost use Rattle.kernels.specs.Order.{meets};
 ghost use Rattle.query.specs.Sorts.{sort_of_kind, sort_of_two};
@@ -16,7 +16,7 @@ use crate::constant::repeated_truth;
 use crate::stop::Stop;
 use crate::values::{Operand, Values};
 use arrays::View;
-use kernels::{CmpOp, Truths, array_of};
+use kernels::{CmpOp, Items, Places, array_of};
 use query::Op;
 use std::alloc::Global;
 use std::cmp::Ordering;
@@ -64,8 +64,9 @@ pub(crate) fn compare_with_text<'a>(
         text,
         op,
         is_first,
+        slots: view.slots(),
     };
-    let array = array_of(alloc, &beside)?;
+    let array = array_of(alloc, &Items { view }, &beside)?;
     Ok(Values::Column(Operand::Made(array)))
 }
 
@@ -101,31 +102,24 @@ struct BesideText<'a, 'b> {
     text: &'a str,
     op: CmpOp,
     is_first: bool,
+    slots: u32,
     ghost texts: { is_text view.now.kind ≡ true },
+    ghost size: { length view.now.items ≡ slots },
+    ghost short: { slots ≤ most_slots },
 }
 
-impl<'a, 'b> Truths for BesideText<'a, 'b> {
+impl<'a, 'b> Places for BesideText<'a, 'b> {
     ghost use Rattle.evaluate.specs.Making.{in_order};
 
-    ghost count = { λ b. length b.view.now.items };
+    ghost at = { λ b i. meets b.op (in_order b.is_first order (item.text b.text.now) (item_at b.view.now.items i)) };
 
-    ghost known = { λ b i. holds_at b.view.now i };
+    ghost count = { λ b. b.slots };
 
-    ghost value = { λ b i. meets b.op (in_order b.is_first order (item.text b.text.now) (item_at b.view.now.items i)) };
-
-    fn slots(&self) -> u32 {
-        self.view.slots()
+    fn len(&self) -> usize {
+        self.slots as usize
     }
 
-    fn are_known(&self) -> bool {
-        false
-    }
-
-    fn known(&self, i: usize) -> bool {
-        self.view.holds(i)
-    }
-
-    fn value(&self, i: usize) -> bool {
+    fn at(&self, i: usize) -> bool {
         let order = match self.view.text_at(i) {
             Some(other) => order_of(self.text, other, self.is_first),
             None => Ordering::Equal,

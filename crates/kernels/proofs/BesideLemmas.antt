@@ -1,5 +1,5 @@
 -- A column and one number.
-use Rattle.std.proofs.Common.{◌≡◌, ◌∙◌, ℕ, ◌+◌, ◌<◌, ◌==◌, ◌&&◌, ℤ, map, Bool, true, false, not, length, cond, Option, Some, None, option_map, ap, sym, subst, refl, position, inl, inr}
+use Rattle.std.proofs.Common.{◌≡◌, ◌∙◌, ℕ, ◌+◌, ◌<◌, ◌==◌, ◌&&◌, ℤ, List, map, Bool, true, false, not, length, cond, Option, Some, None, option_map, ap, sym, subst, refl, position, inl, inr}
 use Rattle.std.specs.List.{range_with_len}
 use Rattle.std.specs.Option.{option_or}
 use Rattle.std.proofs.lemmas.List.{get_or-replicate, length-replicate}
@@ -7,9 +7,10 @@ use Rattle.arrays.specs.IntType.{IntType}
 use Rattle.arrays.specs.Item.{Item, null, int, boolean, text, list}
 use Rattle.arrays.specs.Kind as kind
 use Rattle.arrays.specs.Kind.{Kind}
-use Rattle.arrays.specs.Number.{is_of_type}
+use Rattle.arrays.specs.Number.{is_of_type, number_at}
 use Rattle.arrays.specs.Seen.{Seen, valid_at}
 use Rattle.arrays.specs.Shown.{kept}
+use Rattle.arrays.specs.Values.{HasNumbers}
 use Rattle.truths.specs.Valid.{both_valid, valid_in_both}
 use Rattle.arrays.proofs.RangeLists.{map-range-below}
 use Rattle.arrays.specs.Slot.{item_at}
@@ -19,7 +20,7 @@ use Rattle.kernels.specs.Arithmetic.{exact, results, is_outside, first_bad, are_
 use Rattle.kernels.specs.Beside.{fault_from, fault_with, has_number, number_beside, number_fault}
 use Rattle.kernels.specs.declared.fault.KernelFault.{KernelFault}
 use Rattle.kernels.specs.declared.fault.KernelFault.TheVariants.{TypesDiffer, LengthsDiffer, Overflow}
-use Rattle.kernels.proofs.ResultLemmas.{AreNumbers}
+use Rattle.kernels.proofs.ResultLemmas.{AreNumbers, AreOperands, column_numbers}
 
 -- ---- the column that has the number at each slot
 
@@ -41,6 +42,15 @@ pub kept_beside : (s : Seen) (z : ℤ) → kept (both_valid s s) ≡ kept (both_
 kept_beside s z =
     ap kept (map-range-below (valid_in_both s s) (valid_in_both s (number_beside s z)) 0 (length s.items) (λ i below. both_itself (valid_at s (0 + i))))
 
+pub column_beside : (t : IntType) (x : List ℕ) (s : Seen) (z present : ℤ) → s.kind ≡ kind.int t → HasNumbers t x s → present ≡ z → AreOperands t (number_at t x) (λ j. present) s (number_beside s z)
+column_beside t x s z present kind_is has is = record {
+  kind_a = kind_is;
+  kind_b = kind_is;
+  lengths = sym (beside_size s z);
+  of_a = column_numbers t x s has;
+  of_b = beside_numbers s z present is;
+}
+
 -- ---- faults
 
 pub number_fits : (t : IntType) (s : Seen) (z : ℤ) → s.kind ≡ kind.int t → is_of_type t z ≡ true → number_fault s z ≡ None
@@ -61,30 +71,11 @@ flipped f x y = f y x
 
 lifted_flipped : (f : ℤ → ℤ → ℤ) (x y : Item) → lifted (exact (flipped f)) x y ≡ lifted (exact f) y x
 lifted_flipped f null null = refl
-lifted_flipped f null (int q) = refl
-lifted_flipped f null (boolean q) = refl
-lifted_flipped f null (text q) = refl
-lifted_flipped f null (list q) = refl
 lifted_flipped f (int p) null = refl
-lifted_flipped f (int p) (int q) = refl
-lifted_flipped f (int p) (boolean q) = refl
-lifted_flipped f (int p) (text q) = refl
-lifted_flipped f (int p) (list q) = refl
 lifted_flipped f (boolean p) null = refl
-lifted_flipped f (boolean p) (int q) = refl
-lifted_flipped f (boolean p) (boolean q) = refl
-lifted_flipped f (boolean p) (text q) = refl
-lifted_flipped f (boolean p) (list q) = refl
 lifted_flipped f (text p) null = refl
-lifted_flipped f (text p) (int q) = refl
-lifted_flipped f (text p) (boolean q) = refl
-lifted_flipped f (text p) (text q) = refl
-lifted_flipped f (text p) (list q) = refl
 lifted_flipped f (list p) null = refl
-lifted_flipped f (list p) (int q) = refl
-lifted_flipped f (list p) (boolean q) = refl
-lifted_flipped f (list p) (text q) = refl
-lifted_flipped f (list p) (list q) = refl
+lifted_flipped f x y = refl
 
 pub results_flipped : (f : ℤ → ℤ → ℤ) (s : Seen) (z : ℤ) → results (flipped f) s.items (number_beside s z).items ≡ results f (number_beside s z).items s.items
 results_flipped f s z =

@@ -15,8 +15,8 @@ use Rattle.arrays.specs.Values.{HasBits, HasTexts, valid_values}
 use Rattle.kernels.specs.Lift.{lifted}
 use Rattle.arrays.specs.Order.{order}
 use Rattle.kernels.specs.Order.{compared, meets}
-use Rattle.truths.specs.Truth.{truth_at}
-use Rattle.kernels.specs.Wanted.{decisions, wants}
+use Rattle.truths.specs.Truth.{truth_at, truths_of}
+use Rattle.kernels.specs.Wanted.{wants}
 use Rattle.kernels.specs.declared.comparison.CmpOp.{CmpOp}
 use Rattle.kernels.specs.declared.comparison.wanted.Wanted.{Wanted}
 use Rattle.kernels.proofs.ResultLemmas.{AreNumbers}
@@ -24,14 +24,6 @@ use Rattle.kernels.proofs.ResultLemmas.{AreNumbers}
 -- whether two items meet the comparison
 abbrev pub met : CmpOp → Item → Item → Item
 met op x y = item.boolean (meets op (order x y))
-
--- a decision at each place
-pub decisions-compared : (op : CmpOp) (both : ℕ → Bool) (o : ℕ → Ordering) (xs ys : List Item) →
-    ((i : ℕ) → i < length xs → truth_at both (λ j. meets op (o j)) i ≡ lifted (met op) (item_at xs i) (item_at ys i)) →
-    decisions op both o (length xs) ≡ compared op xs ys
-decisions-compared op both o xs ys same =
-    map-range-below (truth_at both (λ j. meets op (o j))) (λ i. lifted (met op) (item_at xs i) (item_at ys i)) 0 (length xs)
-    (λ i h. subst (λ k. truth_at both (λ j. meets op (o j)) k ≡ lifted (met op) (item_at xs k) (item_at ys k)) (sym (zero-add i)) (same i h))
 
 -- an item of a column whose valid slots have values
 valid_value : (value : ℕ → Item) (s : Seen) (i : ℕ) → s.items ≡ valid_values value s → i < length s.items →
@@ -58,56 +50,56 @@ two_items op x y = by_tests (is_null x) (is_null y)
     by_tests false true = refl
     by_tests false false = refl
 
-module _ (op : CmpOp) (a b : Seen) (lengths : length a.items ≡ length b.items) where
+-- what a comparison wants, at each place
+module _ (op : CmpOp) (w : Wanted) (is : (o : Ordering) → wants w o ≡ meets op o) (a b : Seen) (lengths : length a.items ≡ length b.items) where
+  decided : (both : ℕ → Bool) (o : ℕ → Ordering) → ((i : ℕ) → i < length a.items → truth_at both (λ j. meets op (o j)) i ≡ lifted (met op) (item_at a.items i) (item_at b.items i))
+      → truths_of both (λ i. wants w (o i)) (length a.items) ≡ compared op a.items b.items
+  decided both o same =
+      (λ j. truths_of both (λ i. is (o i) j) (length a.items))
+      ∙ map-range-below (truth_at both (λ j. meets op (o j))) (λ i. lifted (met op) (item_at a.items i) (item_at b.items i)) 0 (length a.items)
+      (λ i h. subst (λ k. truth_at both (λ j. meets op (o j)) k ≡ lifted (met op) (item_at a.items k) (item_at b.items k)) (sym (zero-add i)) (same i h))
+
   -- two columns whose valid slots have values
-  values-compared : (x y : ℕ → Item) → a.items ≡ valid_values x a → b.items ≡ valid_values y b →
-      ((i : ℕ) → is_null (x i) ≡ false) → ((i : ℕ) → is_null (y i) ≡ false) →
-      decisions op (λ i. valid_at a i && valid_at b i) (λ i. order (x i) (y i)) (length a.items) ≡ compared op a.items b.items
+  values-compared : (x y : ℕ → Item) → a.items ≡ valid_values x a → b.items ≡ valid_values y b → ((i : ℕ) → is_null (x i) ≡ false) → ((i : ℕ) → is_null (y i) ≡ false)
+      → truths_of (λ i. valid_at a i && valid_at b i) (λ i. wants w (order (x i) (y i))) (length a.items) ≡ compared op a.items b.items
   values-compared x y are_x are_y there_x there_y =
-      decisions-compared op (λ i. valid_at a i && valid_at b i) (λ i. order (x i) (y i)) a.items b.items (λ i h.
+      decided (λ i. valid_at a i && valid_at b i) (λ i. order (x i) (y i)) (λ i h.
       let below : i < length b.items = subst (λ n. i < n) lengths h in
       let e = valid_value x a i are_x h in
       let f = valid_value y b i are_y below in
       two_valid op (valid_at a i) (valid_at b i) (x i) (y i) (there_x i) (there_y i)
       ∙ sym (λ j. lifted (met op) (e j) (f j)))
 
-  -- two columns of numbers
-  pub numbers-compared : (x y : ℕ → ℤ) → AreNumbers x a → AreNumbers y b →
-      (v w : Option (List Bool)) (n : ℕ) → v ≡ a.validity → w ≡ b.validity → n ≡ length a.items →
-      decisions op (λ i. valid_in v i && valid_in w i) (λ i. int_cmp (x i) (y i)) n ≡ compared op a.items b.items
-  numbers-compared x y are_x are_y v w n v_is w_is n_is =
-      (λ j. decisions op (λ i. valid_in (v_is j) i && valid_in (w_is j) i) (λ i. int_cmp (x i) (y i)) (n_is j))
-      ∙ decisions-compared op (λ i. valid_at a i && valid_at b i) (λ i. int_cmp (x i) (y i)) a.items b.items (λ i h.
-      let e = are_x i h in
-      let f = are_y i (subst (λ m. i < m) lengths h) in
-      two_valid op (valid_at a i) (valid_at b i) (int (x i)) (int (y i)) refl refl
-      ∙ sym (λ j. lifted (met op) (e j) (f j)))
-
-  -- two columns of truth values
-  pub bools-compared : (x y : List Bool) → HasBits x a → HasBits y b →
-      (v w : Option (List Bool)) (n : ℕ) → v ≡ a.validity → w ≡ b.validity → n ≡ length a.items →
-      decisions op (λ i. valid_in v i && valid_in w i) (λ i. bool_cmp (slice_index_or x i false) (slice_index_or y i false)) n
-      ≡ compared op a.items b.items
-  bools-compared x y has_x has_y v w n v_is w_is n_is =
-      (λ j. decisions op (λ i. valid_in (v_is j) i && valid_in (w_is j) i) (λ i. bool_cmp (slice_index_or x i false) (slice_index_or y i false)) (n_is j))
-      ∙ values-compared (λ i. item.boolean (slice_index_or x i false)) (λ i. item.boolean (slice_index_or y i false)) has_x.values has_y.values (λ i. refl) (λ i. refl)
-
-  -- two columns of texts that lie behind one another
-  pub texts-compared : (xo x yo y : List ℕ) → HasTexts xo x a → HasTexts yo y b →
-      (v w : Option (List Bool)) (n : ℕ) → v ≡ a.validity → w ≡ b.validity → n ≡ length a.items →
-      decisions op (λ i. valid_in v i && valid_in w i) (λ i. slice_cmp nat_cmp (of_slot xo x i) (of_slot yo y i)) n
-      ≡ compared op a.items b.items
-  texts-compared xo x yo y has_x has_y v w n v_is w_is n_is =
-      (λ j. decisions op (λ i. valid_in (v_is j) i && valid_in (w_is j) i) (λ i. slice_cmp nat_cmp (of_slot xo x i) (of_slot yo y i)) (n_is j))
-      ∙ values-compared (λ i. text (of_slot xo x i)) (λ i. text (of_slot yo y i)) has_x.texts has_y.texts (λ i. refl) (λ i. refl)
-
   -- two columns, item by item
-  pub items-compared :
-      decisions op (λ i. holds_at a i && holds_at b i) (λ i. order (item_at a.items i) (item_at b.items i)) (length a.items)
-      ≡ compared op a.items b.items
-  items-compared =
-      decisions-compared op (λ i. holds_at a i && holds_at b i) (λ i. order (item_at a.items i) (item_at b.items i)) a.items b.items
-      (λ i h. two_items op (item_at a.items i) (item_at b.items i))
+  pub items-compared : (n : ℕ) → n ≡ length a.items → truths_of (λ i. holds_at a i && holds_at b i) (λ i. wants w (order (item_at a.items i) (item_at b.items i))) n ≡ compared op a.items b.items
+  items-compared n n_is =
+      ap (truths_of (λ i. holds_at a i && holds_at b i) (λ i. wants w (order (item_at a.items i) (item_at b.items i)))) n_is
+      ∙ decided (λ i. holds_at a i && holds_at b i) (λ i. order (item_at a.items i) (item_at b.items i)) (λ i h. two_items op (item_at a.items i) (item_at b.items i))
+
+  module _ (v u : Option (List Bool)) (n : ℕ) (v_is : v ≡ a.validity) (u_is : u ≡ b.validity) (n_is : n ≡ length a.items) where
+    -- two columns of numbers
+    pub numbers-compared : (x y : ℕ → ℤ) → AreNumbers x a → AreNumbers y b → truths_of (λ i. valid_in v i && valid_in u i) (λ i. wants w (int_cmp (x i) (y i))) n ≡ compared op a.items b.items
+    numbers-compared x y are_x are_y =
+        (λ j. truths_of (λ i. valid_in (v_is j) i && valid_in (u_is j) i) (λ i. wants w (int_cmp (x i) (y i))) (n_is j))
+        ∙ decided (λ i. valid_at a i && valid_at b i) (λ i. int_cmp (x i) (y i)) (λ i h.
+        let e = are_x i h in
+        let f = are_y i (subst (λ m. i < m) lengths h) in
+        two_valid op (valid_at a i) (valid_at b i) (int (x i)) (int (y i)) refl refl
+        ∙ sym (λ j. lifted (met op) (e j) (f j)))
+
+    -- two columns of truth values
+    pub bools-compared : (x y : List Bool) → HasBits x a → HasBits y b
+        → truths_of (λ i. valid_in v i && valid_in u i) (λ i. wants w (bool_cmp (slice_index_or x i false) (slice_index_or y i false))) n ≡ compared op a.items b.items
+    bools-compared x y has_x has_y =
+        (λ j. truths_of (λ i. valid_in (v_is j) i && valid_in (u_is j) i) (λ i. wants w (bool_cmp (slice_index_or x i false) (slice_index_or y i false))) (n_is j))
+        ∙ values-compared (λ i. item.boolean (slice_index_or x i false)) (λ i. item.boolean (slice_index_or y i false)) has_x.values has_y.values (λ i. refl) (λ i. refl)
+
+    -- two columns of texts that lie behind one another
+    pub texts-compared : (xo x yo y : List ℕ) → HasTexts xo x a → HasTexts yo y b
+        → truths_of (λ i. valid_in v i && valid_in u i) (λ i. wants w (slice_cmp nat_cmp (of_slot xo x i) (of_slot yo y i))) n ≡ compared op a.items b.items
+    texts-compared xo x yo y has_x has_y =
+        (λ j. truths_of (λ i. valid_in (v_is j) i && valid_in (u_is j) i) (λ i. wants w (slice_cmp nat_cmp (of_slot xo x i) (of_slot yo y i))) (n_is j))
+        ∙ values-compared (λ i. text (of_slot xo x i)) (λ i. text (of_slot yo y i)) has_x.texts has_y.texts (λ i. refl) (λ i. refl)
 
 -- what is wanted of two equal items
 pub wants-equal : (w : Wanted) (o : Ordering) → is_eq o ≡ true → w.equal ≡ wants w o

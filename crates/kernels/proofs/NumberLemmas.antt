@@ -38,13 +38,10 @@ unheld (Some z) x y bx by same_x same_y h = tt
 
 number_of_zero : (w : Width) (signed : Bool) → is_of_type (record { bits = w; signed = signed }) (pos 0) ≡ true
 number_of_zero W8 true = refl
-number_of_zero W8 false = refl
 number_of_zero W16 true = refl
-number_of_zero W16 false = refl
 number_of_zero W32 true = refl
-number_of_zero W32 false = refl
 number_of_zero W64 true = refl
-number_of_zero W64 false = refl
+number_of_zero w signed = refl
 
 pub is_of_type-zero : (t : IntType) → is_of_type t (pos 0) ≡ true
 is_of_type-zero t = number_of_zero t.bits t.signed

@@ -114,13 +114,10 @@ first_bad-some f t x y a b row of_a of_b lengths is =
 
 one_int : (w : Width) (signed : Bool) → same_int (record { bits = w; signed = signed }) (record { bits = w; signed = signed }) ≡ true
 one_int W8 true = refl
-one_int W8 false = refl
 one_int W16 true = refl
-one_int W16 false = refl
 one_int W32 true = refl
-one_int W32 false = refl
 one_int W64 true = refl
-one_int W64 false = refl
+one_int w signed = refl
 
 same_length : (m n : ℕ) → m ≡ n → (m == n) ≡ true
 same_length m n h = grind (arith, nat_tests)
@@ -139,6 +136,16 @@ pub record AreOperands (t : IntType) (x y : ℕ → ℤ) (a b : Seen) : Type 0 w
   pub lengths : length a.items ≡ length b.items
   pub of_a : AreNumbers x a
   pub of_b : AreNumbers y b
+
+pub two_columns : (t : IntType) (x y : List ℕ) (a b : Seen) → a.kind ≡ kind.int t → b.kind ≡ kind.int t → length a.items ≡ length b.items → HasNumbers t x a → HasNumbers t y b
+    → AreOperands t (number_at t x) (number_at t y) a b
+two_columns t x y a b kind_a kind_b lengths of_a of_b = record {
+  kind_a = kind_a;
+  kind_b = kind_b;
+  lengths = lengths;
+  of_a = column_numbers t x a of_a;
+  of_b = column_numbers t y b of_b;
+}
 
 fault_at : (f : ℤ → ℤ → ℤ) (t : IntType) (x y : ℕ → ℤ) (a b : Seen) (row : Option ℕ) → AreOperands t x y a b → first_bad f (kind.int t) a.items b.items ≡ row
     → arithmetic_fault f a b ≡ option_map (λ row. Overflow row) row

@@ -9,7 +9,6 @@ ghost use Rattle.kernels.specs.Beside.{number_beside, number_fault};
 ghost use Rattle.kernels.specs.Fault.{IsKernelFault};
 ghost use Rattle.kernels.specs.Order.{are_comparable, compared, comparison_fault};
 ghost use Rattle.arrays.specs.Shown.{shown};
-ghost use Rattle.kernels.specs.Wanted.{decisions, wants};
 
 mod packed;
 mod pairs;
@@ -18,10 +17,10 @@ mod wanted;
 use crate::fault::KernelFault;
 use crate::side::{One, type_with};
 use arrays::{Array, IntType, Integer, View, ViewType, with_integer};
-use colbits::NoMemory;
-use pairs::{Bools, Numbers, Pairs, PlainTexts, Shown};
+use colbits::{Both, NoMemory, Ones};
+use pairs::{Bools, Numbers, PlainTexts, Shown};
 use std::alloc::Global;
-use truths::{BothValid, Truths, array_of};
+use truths::{Items, Valid, array_of};
 use wanted::Wanted;
 
 /// A comparison.
@@ -135,10 +134,11 @@ fn compare_numbers<T: Integer>(
     let pairs = Numbers {
         a: a.ints::<T>(),
         b: b.ints::<T>(),
-        valid: BothValid::of(a, b),
+        wanted: Wanted::of(op),
         slots: a.slots(),
     };
-    decided(alloc, op, &pairs)
+    let (x, y) = (Valid::of(a), Valid::of(b));
+    array_of(alloc, &Both { a: &x, b: &y }, &pairs)
 }
 
 /// Compares a column of an integer type and a number of it.
@@ -174,14 +174,11 @@ fn compare_each<T: Integer>(
     let pairs = Numbers {
         a: a.ints::<T>(),
         b: one,
-        valid: BothValid {
-            a: a.validity(),
-            b: None,
-            len: a.len(),
-        },
+        wanted: Wanted::of(op),
         slots: a.slots(),
     };
-    decided(alloc, op, &pairs)
+    let (x, y) = (Valid::of(a), Ones { count: a.len() });
+    array_of(alloc, &Both { a: &x, b: &y }, &pairs)
 }
 
 /// Compares two columns of truth values.
@@ -194,10 +191,11 @@ fn compare_bools(alloc: Global, op: CmpOp, a: &View<'_>, b: &View<'_>) -> Result
     let pairs = Bools {
         a: a.bool_bits(),
         b: b.bool_bits(),
-        valid: BothValid::of(a, b),
+        wanted: Wanted::of(op),
         slots: a.slots(),
     };
-    decided(alloc, op, &pairs)
+    let (x, y) = (Valid::of(a), Valid::of(b));
+    array_of(alloc, &Both { a: &x, b: &y }, &pairs)
 }
 
 /// Compares two columns of texts, dictionary-encoded or not.
@@ -207,65 +205,26 @@ fn compare_texts(alloc: Global, op: CmpOp, a: &View<'_>, b: &View<'_>) -> Result
     requires lengths { length a.now.items ≡ length b.now.items }
     ensures { IfOk result (λ r. r ≡ shown kind.boolean (compared op a.now.items b.now.items)) }
 {
+    let wanted = Wanted::of(op);
     match (a.ty(), b.ty()) {
         (ViewType::Text(width), ViewType::Text(other)) => {
             let pairs = PlainTexts {
                 a: a.texts(width),
                 b: b.texts(other),
-                valid: BothValid::of(a, b),
+                wanted,
             };
-            decided(alloc, op, &pairs)
+            let (x, y) = (Valid::of(a), Valid::of(b));
+            array_of(alloc, &Both { a: &x, b: &y }, &pairs)
         }
-        _ => decided(alloc, op, &Shown { a, b }),
-    }
-}
-
-/// The array that tells of each pair whether it meets the comparison.
-fn decided<P: Pairs>(alloc: Global, op: CmpOp, pairs: &P) -> Result<Array, NoMemory>
-    ensures { IfOk result (λ r. r ≡ shown kind.boolean
-        (decisions op (P.both pairs.now) (P.order pairs.now) (P.count pairs.now))) }
-{
-    let wanted = Wanted::of(op);
-    array_of(alloc, &Verdicts { pairs, wanted })
-}
-
-/// Whether the items stand to each other as wanted, at each place.
-#[derive(Drop)]
-struct Verdicts<'p, P> {
-    pairs: &'p P,
-    wanted: Wanted,
-}
-
-impl<'p, P: Pairs> Truths for Verdicts<'p, P> {
-    ghost count = { λ d. P.count d.pairs.now };
-
-    ghost known = { λ d. P.both d.pairs.now };
-
-    ghost value = { λ d i. wants d.wanted (P.order d.pairs.now i) };
-
-    fn slots(&self) -> u32 {
-        self.pairs.slots()
-    }
-
-    fn are_known(&self) -> bool {
-        self.pairs.are_there()
-    }
-
-    fn known(&self, i: usize) -> bool {
-        self.pairs.holds(i)
-    }
-
-    fn value(&self, i: usize) -> bool {
-        self.pairs.meets(self.wanted, i)
-    }
-
-    #[inline(always)]
-    fn known_word(&self, i: usize) -> u64 {
-        self.pairs.holds_word(i)
-    }
-
-    #[inline(always)]
-    fn value_word(&self, i: usize) -> u64 {
-        self.pairs.meets_word(self.wanted, i)
+        _ => {
+            let (x, y) = (Items { view: a }, Items { view: b });
+            let pairs = Shown {
+                a,
+                b,
+                wanted,
+                slots: a.slots(),
+            };
+            array_of(alloc, &Both { a: &x, b: &y }, &pairs)
+        }
     }
 }

@@ -1,5 +1,8 @@
+ghost use Rattle.std.specs.Prelude.{◌≡◌};
+ghost use Rattle.kernels.specs.declared.fault.KernelFault.TheVariants as faults;
+
 use colbits::NoMemory;
-use std::alloc::AllocError;
+use std::alloc::{AllocError, AllocFailed};
 use thiserror::Error;
 
 /// Why a kernel gives no array. Where several stand, types come before lengths, and lengths before rows.
@@ -20,10 +23,7 @@ pub enum KernelFault {
 }
 
 impl From<NoMemory> for KernelFault {
-    ghost use Rattle.std.specs.Prelude.{◌≡◌};
-    ghost use Rattle.kernels.specs.declared.fault.KernelFault.TheVariants as fault;
-
-    ghost from_gives = { λ _ e. e ≡ fault.NoMemory };
+    ghost from_gives = { λ _ e. e ≡ faults.NoMemory };
 
     fn from(_: NoMemory) -> KernelFault {
         KernelFault::NoMemory
@@ -31,12 +31,17 @@ impl From<NoMemory> for KernelFault {
 }
 
 impl From<AllocError> for KernelFault {
-    ghost use Rattle.std.specs.Prelude.{◌≡◌};
-    ghost use Rattle.kernels.specs.declared.fault.KernelFault.TheVariants as fault;
-
-    ghost from_gives = { λ _ e. e ≡ fault.NoMemory };
+    ghost from_gives = { λ _ e. e ≡ faults.NoMemory };
 
     fn from(_: AllocError) -> KernelFault {
+        KernelFault::NoMemory
+    }
+}
+
+impl<T: Drop> From<AllocFailed<T>> for KernelFault {
+    ghost from_gives = { λ _ e. e ≡ faults.NoMemory };
+
+    fn from(_: AllocFailed<T>) -> KernelFault {
         KernelFault::NoMemory
     }
 }

@@ -196,18 +196,12 @@ AreChildren-more kind columns children more k s child below at are is same more_
 
 -- columns that aren't dictionary-encoded
 pub joined-shown : (k : Kind) (columns : List Seen) → same_kind k kind.dict ≡ false → joined k columns ≡ shown k (joined_items columns)
-joined-shown (kind.int t) columns h = refl
-joined-shown kind.boolean columns h = refl
-joined-shown (kind.texts w) columns h = refl
-joined-shown (kind.lists w k) columns h = refl
 joined-shown kind.dict columns h = cc
+joined-shown k columns h = refl
 
 pub content-shown : (k : Kind) (columns : List Seen) → same_kind k kind.dict ≡ false → is_content_too_big k columns ≡ is_too_big k (joined_items columns)
-content-shown (kind.int t) columns h = refl
-content-shown kind.boolean columns h = refl
-content-shown (kind.texts w) columns h = refl
-content-shown (kind.lists w k) columns h = refl
 content-shown kind.dict columns h = cc
+content-shown k columns h = refl
 
 pub first-kind : (columns : List Seen) (s : Seen) → 1 ≤ length columns → s ≡ get_or columns 0 s → kind_of_first columns ≡ s.kind
 first-kind [] s some at = absurd (omega (arith, some))

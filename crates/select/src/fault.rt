@@ -1,3 +1,6 @@
+ghost use Rattle.std.specs.Prelude.{◌≡◌};
+ghost use Rattle.select.specs.declared.fault.SelectFault.TheVariants as faults;
+
 use arrays::{BuildFault, NoMemory};
 use std::alloc::{AllocError, AllocFailed};
 use thiserror::Error;
@@ -27,10 +30,7 @@ pub enum SelectFault {
 }
 
 impl From<NoMemory> for SelectFault {
-    ghost use Rattle.std.specs.Prelude.{◌≡◌};
-    ghost use Rattle.select.specs.declared.fault.SelectFault.TheVariants as fault;
-
-    ghost from_gives = { λ _ e. e ≡ fault.NoMemory };
+    ghost from_gives = { λ _ e. e ≡ faults.NoMemory };
 
     fn from(_: NoMemory) -> SelectFault {
         SelectFault::NoMemory
@@ -38,10 +38,7 @@ impl From<NoMemory> for SelectFault {
 }
 
 impl From<AllocError> for SelectFault {
-    ghost use Rattle.std.specs.Prelude.{◌≡◌};
-    ghost use Rattle.select.specs.declared.fault.SelectFault.TheVariants as fault;
-
-    ghost from_gives = { λ _ e. e ≡ fault.NoMemory };
+    ghost from_gives = { λ _ e. e ≡ faults.NoMemory };
 
     fn from(_: AllocError) -> SelectFault {
         SelectFault::NoMemory
@@ -49,10 +46,7 @@ impl From<AllocError> for SelectFault {
 }
 
 impl<T: Drop> From<AllocFailed<T>> for SelectFault {
-    ghost use Rattle.std.specs.Prelude.{◌≡◌};
-    ghost use Rattle.select.specs.declared.fault.SelectFault.TheVariants as fault;
-
-    ghost from_gives = { λ _ e. e ≡ fault.NoMemory };
+    ghost from_gives = { λ _ e. e ≡ faults.NoMemory };
 
     fn from(_: AllocFailed<T>) -> SelectFault {
         SelectFault::NoMemory

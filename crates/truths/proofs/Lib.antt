@@ -1,3 +1,2 @@
 -- What the proofs of this crate share, and those above it cite.
 pub mod TruthLemmas
-pub mod ValidityLemmas

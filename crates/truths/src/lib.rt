@@ -5,5 +5,5 @@
 pub mod array;
 pub mod validity;
 
-pub use array::{Truths, array_of};
-pub use validity::{BothValid, both_valid};
+pub use array::array_of;
+pub use validity::{Items, Valid, both_valid};

@@ -1,14 +1,15 @@
-//! The slots that are valid in both of two views.
+//! The slots that are valid in a view, or in both of two, and those that have an item.
 
-ghost use Rattle.std.specs.Prelude.{◌≡◌, ◌&&◌, length, IfOk};
+ghost use Rattle.std.specs.Prelude.{◌≡◌, length, IfOk};
 ghost use Rattle.arrays.specs.Seen.{valid_in};
 ghost use Rattle.arrays.specs.Shown.{kept};
+ghost use Rattle.arrays.specs.Slot.{holds_at};
 ghost use Rattle.truths.specs.Valid.{both_valid};
 
+use crate::array::known_of;
 use arrays::View;
-use arrays::validity::{is_valid, valid_lanes, valid_word, validity_of};
-use colbits::lanes::both;
-use colbits::{BitmapBuf, Bits, NoMemory, Places};
+use arrays::validity::{is_valid, valid_lanes, valid_word};
+use colbits::{BitmapBuf, Bits, Both, NoMemory, Places};
 use std::alloc::Global;
 use std::simd::prelude::*;
 
@@ -17,38 +18,32 @@ pub fn both_valid(alloc: Global, a: &View<'_>, b: &View<'_>) -> Result<Option<Bi
     requires { length a.now.items ≡ length b.now.items }
     ensures { IfOk result (λ v. v ≡ kept (both_valid a.now b.now)) }
 {
-    let both = BothValid::of(a, b);
-    if both.a.is_none() && both.b.is_none() {
-        return Ok(None);
-    }
-    validity_of(alloc, &both)
+    let (a, b) = (Valid::of(a), Valid::of(b));
+    known_of(alloc, &Both { a: &a, b: &b })
 }
 
-/// Whether the slots of two views of one length are both valid.
+/// Whether the slots of a view are valid.
 #[derive(Drop)]
-pub struct BothValid<'a, 'b> {
-    pub a: Option<Bits<'a>>,
-    pub b: Option<Bits<'b>>,
+pub struct Valid<'a> {
+    pub bits: Option<Bits<'a>>,
     pub len: usize,
 }
 
-impl<'a, 'b> BothValid<'a, 'b> {
-    /// Of two views.
-    pub fn of(a: &View<'a>, b: &View<'b>) -> BothValid<'a, 'b>
-        ensures a { result.a ≡ a.now.validity }
-        ensures b { result.b ≡ b.now.validity }
-        ensures len { result.len ≡ length a.now.items }
+impl<'a> Valid<'a> {
+    /// Of a view.
+    pub fn of(view: &View<'a>) -> Valid<'a>
+        ensures bits { result.bits ≡ view.now.validity }
+        ensures len { result.len ≡ length view.now.items }
     {
-        BothValid {
-            a: a.validity(),
-            b: b.validity(),
-            len: a.len(),
+        Valid {
+            bits: view.validity(),
+            len: view.len(),
         }
     }
 }
 
-impl<'a, 'b> Places for BothValid<'a, 'b> {
-    ghost at = { λ v i. valid_in v.a i && valid_in v.b i };
+impl<'a> Places for Valid<'a> {
+    ghost at = { λ v. valid_in v.bits };
 
     ghost count = { λ v. v.len };
 
@@ -57,17 +52,41 @@ impl<'a, 'b> Places for BothValid<'a, 'b> {
     }
 
     fn at(&self, i: usize) -> bool {
-        is_valid(&self.a, i) & is_valid(&self.b, i)
+        is_valid(&self.bits, i)
+    }
+
+    fn are_ones(&self) -> bool {
+        self.bits.is_none()
     }
 
     #[inline(always)]
     fn word(&self, i: usize) -> u64 {
-        valid_word(&self.a, i) & valid_word(&self.b, i)
+        valid_word(&self.bits, i)
     }
 
     #[inline(always)]
     fn lanes(&self, i: usize) -> u8x32 {
         prove!(self.len >= i + 256);
-        both(valid_lanes(&self.a, i), valid_lanes(&self.b, i))
+        valid_lanes(&self.bits, i)
+    }
+}
+
+/// Whether the slots of a view have an item: they are valid, and the entry that one names isn't null.
+#[derive(Drop)]
+pub struct Items<'a, 'b> {
+    pub view: &'a View<'b>,
+}
+
+impl<'a, 'b> Places for Items<'a, 'b> {
+    ghost at = { λ p. holds_at p.view.now };
+
+    ghost count = { λ p. length p.view.now.items };
+
+    fn len(&self) -> usize {
+        self.view.len()
+    }
+
+    fn at(&self, i: usize) -> bool {
+        self.view.holds(i)
     }
 }

@@ -9,7 +9,7 @@ use super::{BitmapBuf, bytes_for, last_word};
 use crate::bits::Bits;
 use crate::buffer::Buffer;
 use crate::memory::NoMemory;
-use crate::places::Places;
+use crate::places::{Ones, Places};
 use crate::word::word_from;
 use std::alloc::Global;
 use std::marker::Model;
@@ -101,7 +101,7 @@ impl BitmapBuilder {
         ensures ok { OnOk result (self.new ≡ self.old ++ bits.now) }
         ensures err { OnErr result (self.new ≡ self.old) }
     {
-        self.push_places(&Reported { bits })
+        self.push_places(bits)
     }
 
     /// Adds a bit for each place at the end.
@@ -213,54 +213,4 @@ fn first_of(word: u64, count: usize) -> u64
     ensures { (j : ℕ) → j < 64 → bit_in result j ≡ (bit_in word j && nat_lt j count) }
 {
     word & ((1 << count) - 1)
-}
-
-/// As many places, each of them 1.
-#[derive(Drop)]
-struct Ones {
-    count: usize,
-}
-
-impl Places for Ones {
-    ghost at = { λ p i. true };
-
-    ghost count = { λ p. p.count };
-
-    fn len(&self) -> usize {
-        self.count
-    }
-
-    fn at(&self, _i: usize) -> bool {
-        true
-    }
-
-    #[inline(always)]
-    fn word(&self, _i: usize) -> u64 {
-        u64::MAX
-    }
-}
-
-/// The bits of a bitmap.
-#[derive(Drop)]
-struct Reported<'a, 'b> {
-    bits: &'a Bits<'b>,
-}
-
-impl<'a, 'b> Places for Reported<'a, 'b> {
-    ghost at = { λ p i. bit_of p.bits.now i };
-
-    ghost count = { λ p. length p.bits.now };
-
-    fn len(&self) -> usize {
-        self.bits.len()
-    }
-
-    fn at(&self, i: usize) -> bool {
-        self.bits.get(i)
-    }
-
-    #[inline(always)]
-    fn word(&self, i: usize) -> u64 {
-        self.bits.whole_word(i)
-    }
 }

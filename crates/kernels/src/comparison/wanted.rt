@@ -3,7 +3,7 @@
 ghost use Rattle.std.specs.Prelude.{◌≡◌};
 ghost use Rattle.std.specs.Cmp.Lexicographic.{slice_cmp};
 ghost use Rattle.std.specs.Ordering.{bool_cmp, int_cmp, nat_cmp};
-ghost use Rattle.std.specs.declared.cmp.Ordering.TheVariants.{Less, Equal, Greater};
+ghost use Rattle.std.specs.declared.cmp.Ordering.{Ordering};
 ghost use Rattle.kernels.specs.Order.{meets};
 ghost use Rattle.kernels.specs.Wanted.{wants};
 
@@ -21,9 +21,7 @@ pub(crate) struct Wanted {
 impl Wanted {
     /// Those of a comparison.
     pub(crate) fn of(op: CmpOp) -> Wanted
-        ensures less { result.less ≡ meets op Less }
-        ensures equal { result.equal ≡ meets op Equal }
-        ensures greater { result.greater ≡ meets op Greater }
+        ensures { (o : Ordering) → wants result o ≡ meets op o }
     {
         let (less, equal, greater) = match op {
             CmpOp::Eq => (false, true, false),

@@ -3,8 +3,6 @@ use Rattle.kernels.proofs.comparison.compare_bools.Goals as goal
 
 pub returns : goal.returns
 returns c =
-    let a = c.args.a.now in
-    let b = c.args.b.now in
-    let same = bools-compared c.args.op a b c.requires.lengths c.bool_bits.result c.bool_bits-2.result c.bool_bits.ensures c.bool_bits-2.ensures
-    c.of.result.a c.of.result.b c.slots.result c.of.ensures.a c.of.ensures.b c.slots.ensures.count in
-    rw (← same) c.decided.ensures
+    let same = bools-compared c.args.op c.of.result c.of.ensures c.args.a.now c.args.b.now c.requires.lengths c.of-x.result.bits c.of-y.result.bits c.slots.result c.of-x.ensures.bits c.of-y.ensures.bits
+    c.slots.ensures.count c.bool_bits.result c.bool_bits-2.result c.bool_bits.ensures c.bool_bits-2.ensures in
+    rw (← same) c.array_of.ensures

@@ -20,6 +20,6 @@ returns g c =
     let z = c.args.number in
     let x = c.ints.result.values.now in
     let present = g.T.Integer.value c.narrow.result in
-    let same = numbers-compared c.args.op a (number_beside a z) (sym (beside_size a z)) (number_at ty x) (λ j. present) (column_numbers ty x a c.ints.ensures.values) (beside_numbers a z present (c.narrow.ensures ∙ to_z-of_z w128 z c.ranges.number))
-    c.validity.result None c.slots-2.result c.validity.ensures refl c.slots-2.ensures.count in
-    rw (← same) c.decided.ensures
+    let same = numbers-compared c.args.op c.of.result c.of.ensures a (number_beside a z) (sym (beside_size a z)) c.of-x.result.bits None c.slots-2.result c.of-x.ensures.bits refl
+    c.slots-2.ensures.count (number_at ty x) (λ j. present) (column_numbers ty x a c.ints.ensures.values) (beside_numbers a z present (c.narrow.ensures ∙ to_z-of_z w128 z c.ranges.number)) in
+    rw (← same) c.array_of.ensures

@@ -10,7 +10,6 @@ returns g c =
     let b = c.args.b.now in
     let x = c.ints.result.values.now in
     let y = c.ints-2.result.values.now in
-    let valid = c.of in
-    let same = numbers-compared c.args.op a b c.requires.lengths (number_at ty x) (number_at ty y) (column_numbers ty x a c.ints.ensures.values) (column_numbers ty y b c.ints-2.ensures.values)
-    valid.result.a valid.result.b c.slots.result valid.ensures.a valid.ensures.b c.slots.ensures.count in
-    rw (← same) c.decided.ensures
+    let same = numbers-compared c.args.op c.of.result c.of.ensures a b c.requires.lengths c.of-x.result.bits c.of-y.result.bits c.slots.result c.of-x.ensures.bits c.of-y.ensures.bits
+    c.slots.ensures.count (number_at ty x) (number_at ty y) (column_numbers ty x a c.ints.ensures.values) (column_numbers ty y b c.ints-2.ensures.values) in
+    rw (← same) c.array_of.ensures

@@ -7,8 +7,5 @@ use Rattle.kernels.proofs.kleene.kleene_and.Goals as goal
 pub returns-clause-ok : goal.returns-clause-ok
 returns-clause-ok c =
     let o = c.in_ok-operands.operands in
-    let has = c.in_ok-operands.ensures.ok in (
-      has.0,
-      c.in_ok-array_of.ensures
-          ∙ ap (shown kind.boolean) (truths-conjunction o.a.values o.a.validity o.b.values o.b.validity o.a.slots o.b.slots c.args.a.now.items c.args.b.now.items o.one_length has.1 has.2),
-    )
+    let has = c.in_ok-operands.ensures.ok in
+    (has.0, c.in_ok-array_of.ensures ∙ ap (shown kind.boolean) (truths-conjunction _ _ _ _ c.args.a.now c.args.b.now o.one_length has.1 has.2))

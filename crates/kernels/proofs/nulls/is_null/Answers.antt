@@ -9,4 +9,4 @@ returns-then-may_name_nulls-clause-ok c = c.in_ok-array_of.ensures ∙ ap (shown
 
 pub returns-clause-ok : goal.returns-clause-ok
 returns-clause-ok c =
-    c.in_ok-array_of-2.ensures ∙ ap (shown kind.boolean) (truths-invalid c.args.a.now c.validity.result c.slots.result c.validity.ensures c.slots.ensures.count (c.may_name_nulls.ensures c.if-may_name_nulls.false))
+    c.in_ok-array_of-2.ensures ∙ ap (shown kind.boolean) (truths-invalid c.args.a.now c.of-valid.result.bits c.of-valid.result.len c.of-valid.ensures.bits c.of-valid.ensures.len (c.may_name_nulls.ensures c.if-may_name_nulls.false))

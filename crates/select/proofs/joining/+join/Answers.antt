@@ -22,42 +22,27 @@ returns-in_err-child-in-List-clause-err n c =
     ap (λ t. is_content_too_big (view_kind t) c.args.views.now) c.in-List.is
     ∙ child-too_big c.in-List.width k (view_kind c.of.result) c.args.views.now c.deref-in-List-2.result.now c.in_ok-children-in-List.children.items c.in_ok-children-in-List.ensures.ok c.requires.some parts c.of.ensures big)
 
-pub finish-requires-clause-total : goal.finish-requires-clause-total
-finish-requires-clause-total n c =
-    let k = kind_of (out-Field c.in-List.item.now).ty in
-    let views = c.args.views.now in
-    let parts = c.deref-in-List-2.ensures.value ∙ c.in_ok-parts-in-List.ensures ∙ c.deref.ensures.value in
-    let is = child-shown k (view_kind c.of.result) views c.deref-in-List-2.result.now c.in_ok-children-in-List.children.items c.in_ok-child-in-List.child c.in_ok-children-in-List.ensures.ok c.requires.some parts c.of.ensures c.in_ok-child-in-List.ensures.ok in
-    ap total (ap (λ (q : SizedColumn). q.lengths) c.lengths-in-List.view_is ∙ c.in_ok-lengths-in-List.ensures.ok)
-    ∙ total-lengths (joined_items views)
-    ∙ ap (λ (q : Seen). length q.items) (sym is)
-
-pub finish-requires-clause-kind : goal.finish-requires-clause-kind
-finish-requires-clause-kind n c =
+pub finish-requires : goal.finish-requires
+finish-requires n c =
     let item = c.in-List.item.now in
     let k = kind_of (out-Field item).ty in
-    let parts = c.deref-in-List-2.ensures.value ∙ c.in_ok-parts-in-List.ensures ∙ c.deref.ensures.value in
-    let is = child-shown k (view_kind c.of.result) c.args.views.now c.deref-in-List-2.result.now c.in_ok-children-in-List.children.items c.in_ok-child-in-List.child c.in_ok-children-in-List.ensures.ok c.requires.some parts c.of.ensures c.in_ok-child-in-List.ensures.ok in
-    sym (kind_of_field-field_of c.in_ok-copy-in-List.field-0)
-    ∙ ap kind_of_field c.in_ok-copy-in-List.ensures
-    ∙ kind_of_field-field_of item
-    ∙ ap (λ (q : Seen). q.kind) (sym is)
-
-pub finish-requires-clause-no_dict : goal.finish-requires-clause-no_dict
-finish-requires-clause-no_dict n c =
-    let k = kind_of (out-Field c.in-List.item.now).ty in
+    let views = c.args.views.now in
     let are = c.in_ok-children-in-List.ensures.ok in
     let parts = c.deref-in-List-2.ensures.value ∙ c.in_ok-parts-in-List.ensures ∙ c.deref.ensures.value in
-    let is = child-shown k (view_kind c.of.result) c.args.views.now c.deref-in-List-2.result.now c.in_ok-children-in-List.children.items c.in_ok-child-in-List.child are c.requires.some parts c.of.ensures c.in_ok-child-in-List.ensures.ok in
-    ap (λ (q : Seen). same_kind q.kind kind.dict) is ∙ (are.inner c.requires.some).no_dict
-
-pub finish-requires-clause-depth : goal.finish-requires-clause-depth
-finish-requires-clause-depth n c =
-    let k = kind_of (out-Field c.in-List.item.now).ty in
-    let are = c.in_ok-children-in-List.ensures.ok in
-    let parts = c.deref-in-List-2.ensures.value ∙ c.in_ok-parts-in-List.ensures ∙ c.deref.ensures.value in
-    let is = child-shown k (view_kind c.of.result) c.args.views.now c.deref-in-List-2.result.now c.in_ok-children-in-List.children.items c.in_ok-child-in-List.child are c.requires.some parts c.of.ensures c.in_ok-child-in-List.ensures.ok in
-    subst (λ (q : Seen). depth q.kind < 8) (sym is) (are.inner c.requires.some).shallow
+    let is = child-shown k (view_kind c.of.result) views c.deref-in-List-2.result.now c.in_ok-children-in-List.children.items c.in_ok-child-in-List.child are c.requires.some parts c.of.ensures c.in_ok-child-in-List.ensures.ok in
+    record {
+      total =
+          ap total (ap (λ (q : SizedColumn). q.lengths) c.lengths-in-List.view_is ∙ c.in_ok-lengths-in-List.ensures.ok)
+          ∙ total-lengths (joined_items views)
+          ∙ ap (λ (q : Seen). length q.items) (sym is);
+      kind =
+          sym (kind_of_field-field_of c.in_ok-copy-in-List.field-0)
+          ∙ ap kind_of_field c.in_ok-copy-in-List.ensures
+          ∙ kind_of_field-field_of item
+          ∙ ap (λ (q : Seen). q.kind) (sym is);
+      no_dict = ap (λ (q : Seen). same_kind q.kind kind.dict) is ∙ (are.inner c.requires.some).no_dict;
+      depth = subst (λ (q : Seen). depth q.kind < 8) (sym is) (are.inner c.requires.some).shallow;
+    }
 
 pub returns-in_ok-finish-in-List-clause-ok : goal.returns-in_ok-finish-in-List-clause-ok
 returns-in_ok-finish-in-List-clause-ok n c =

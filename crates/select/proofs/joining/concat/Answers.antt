@@ -15,26 +15,22 @@ returns-then-not-are_of-clause-err c =
 pub join-requires-clause-kinds : goal.join-requires-clause-kinds
 join-requires-clause-kinds c = kinds-of c.args.views.now (view_kind c.ty-ty.result) (sym c.if-not-are_of.ensures)
 
-pub returns-in-Some-clause-ok : goal.returns-in-Some-clause-ok
-returns-in-Some-clause-ok c =
-    let views = c.args.views.now in
-    let first = first-kind views c.index-views-0.result c.requires c.index-views-0.is ∙ sym c.ty-ty.ensures in
-    IfOk-weaker c.join.result _ _
-    (λ r is. (fault-of views (view_kind c.ty-ty.result) true first c.if-not-are_of.ensures, is ∙ ap (λ k. joined k views) (sym first)))
-    c.join.ensures.ok
-
-pub returns-in-Some-clause-err : goal.returns-in-Some-clause-err
-returns-in-Some-clause-err c =
+pub returns-in-Some : goal.returns-in-Some
+returns-in-Some c =
     let views = c.args.views.now in
     let k = view_kind c.ty-ty.result in
     let first = first-kind views c.index-views-0.result c.requires c.index-views-0.is ∙ sym c.ty-ty.ensures in
     let none = fault-of views k true first c.if-not-are_of.ensures in
-    IfErr-weaker c.join.result _ _
-    (λ e reported. elim reported [
-      | inl h ↦ inr (inr (h.0, (none, ap (λ k. is_joined_too_big k views) first ∙ or-right (is_past (length (joined_items views))) (is_content_too_big k views) h.1)))
-      | inr h ↦ inr (inl (h, none))
-    ])
-    c.join.ensures.err
+    record {
+      ok = IfOk-weaker c.join.result _ _ (λ r is. (none, is ∙ ap (λ k. joined k views) (sym first))) c.join.ensures.ok;
+      err =
+          IfErr-weaker c.join.result _ _
+          (λ e reported. elim reported [
+            | inl h ↦ inr (inr (h.0, (none, ap (λ k. is_joined_too_big k views) first ∙ or-right (is_past (length (joined_items views))) (is_content_too_big k views) h.1)))
+            | inr h ↦ inr (inl (h, none))
+          ])
+          c.join.ensures.err;
+    }
 
 pub returns-in-None-clause-err : goal.returns-in-None-clause-err
 returns-in-None-clause-err c =

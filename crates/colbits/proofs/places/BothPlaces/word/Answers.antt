@@ -3,4 +3,4 @@ use Rattle.colbits.proofs.WordLemmas.{bit_in-and}
 use Rattle.colbits.proofs.places.BothPlaces.word.Goals as goal
 
 pub returns : goal.returns
-returns c = λ j h. bit_in-and _ _ j ∙ (λ i. c.whole_word.ensures j h i && c.whole_word-2.ensures j h i)
+returns g c = λ j h. bit_in-and _ _ j ∙ (λ i. c.word.ensures j h i && c.word-2.ensures j h i)

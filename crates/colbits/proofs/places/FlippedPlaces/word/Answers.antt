@@ -3,4 +3,4 @@ use Rattle.colbits.proofs.WordLemmas.{bit_in-not}
 use Rattle.colbits.proofs.places.FlippedPlaces.word.Goals as goal
 
 pub returns : goal.returns
-returns c = λ j h. bit_in-not w64 _ j c.whole_word.type_inv h ∙ ap not (c.whole_word.ensures j h)
+returns g c = λ j h. bit_in-not w64 _ j c.word.type_inv h ∙ ap not (c.word.ensures j h)

@@ -26,29 +26,17 @@ new-requires g c =
     let numbers = c.ints-numbers.result in
     names-more g.T.Integer.ty numbers.values.now numbers.validity c.args.len most_slots numbers.slots c.requires.short c.in-None.ensures.none
 
-pub returns-in-None-clause-inside : goal.returns-in-None-clause-inside
-returns-in-None-clause-inside g c =
+pub returns-in-None : goal.returns-in-None
+returns-in-None g c =
     let t = g.T.Integer.ty in
     let s = c.args.indices.now in
     let numbers = c.ints-numbers.result in
     let has = c.ints-numbers.ensures in
+    let named = rows_named t numbers.values.now numbers.validity numbers.slots in
     let all = Taken-named t numbers.values.now numbers.validity s c.args.len numbers.slots has.values has.validity (omega (arith, has.slots)) c.in-None.ensures.none in
-    Taken-inside c.args.len s.items numbers.slots (rows_named t numbers.values.now numbers.validity numbers.slots) all (omega (arith, has.slots))
-
-pub returns-in-None-clause-rows : goal.returns-in-None-clause-rows
-returns-in-None-clause-rows g c = λ items.
-    let t = g.T.Integer.ty in
-    let s = c.args.indices.now in
-    let numbers = c.ints-numbers.result in
-    let has = c.ints-numbers.ensures in
-    let all = Taken-named t numbers.values.now numbers.validity s c.args.len numbers.slots has.values has.validity (omega (arith, has.slots)) c.in-None.ensures.none in
-    ap (picked items) c.new.ensures ∙ Taken-all c.args.len s.items items numbers.slots (rows_named t numbers.values.now numbers.validity numbers.slots) all (omega (arith, has.slots))
-
-pub returns-in-None-clause-within : goal.returns-in-None-clause-within
-returns-in-None-clause-within g c =
-    let t = g.T.Integer.ty in
-    let s = c.args.indices.now in
-    let numbers = c.ints-numbers.result in
-    let has = c.ints-numbers.ensures in
-    let all = Taken-named t numbers.values.now numbers.validity s c.args.len numbers.slots has.values has.validity (omega (arith, has.slots)) c.in-None.ensures.none in
-    subst (All (IsPick c.args.len)) (sym c.new.ensures) all.within
+    record {
+      inside = Taken-inside c.args.len s.items numbers.slots named all (omega (arith, has.slots));
+      rows = λ items. ap (picked items) c.new.ensures ∙ Taken-all c.args.len s.items items numbers.slots named all (omega (arith, has.slots));
+      within = subst (All (IsPick c.args.len)) (sym c.new.ensures) all.within;
+      err = tt;
+    }
