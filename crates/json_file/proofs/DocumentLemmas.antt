@@ -1,9 +1,8 @@
 -- The members of a document one after another, and the file that they make.
-use Rattle.std.proofs.Common.{◌≡◌, ◌≢◌, ◌∙◌, ℕ, List, false, Option, Some, None, map, drop, option_and_then, refl, sym, ap, subst, arith}
+use Rattle.std.proofs.Common.{◌≡◌, ◌≢◌, ◌∙◌, ℕ, List, Option, Some, None, map, drop, option_and_then, refl, sym, ap, subst, arith}
 use Rattle.arrays.specs.Batch.{Batch}
 use Rattle.arrays.specs.File.{File}
 use Rattle.arrays.specs.Shape.{FieldShape}
-use Rattle.json_scan.specs.Lex.{lex, between, begins_colon}
 use Rattle.json_read.specs.Data.{Data, array, no_items, object, Members, put}
 use Rattle.json_read.specs.Find.{get_member, as_array}
 use Rattle.json_read.specs.JsonMember.{member_of, ReadsFirst}
@@ -94,36 +93,36 @@ module _ (depth : ℕ) (text name : List ℕ) (d : Data) (ms : Members) (p : Doc
   same_file : name ≢ member_name member.Batches → IsFileAt depth text (get_member (member_name member.Batches) (put name d ms)) p.file
   same_file apart = subst (λ o. IsFileAt depth text o p.file) (sym (there member.Batches name d ms apart)) h.file
 
-  pub schema_taken : (s : Stretch) → name ≡ member_name member.Schema → SpellsAt depth (drop s.start text) d (drop s.end text) → begins_colon (lex between (drop s.end text)) ≡ false
+  pub schema_taken : (s : Stretch) → name ≡ member_name member.Schema → StandsOn depth text (Some d) (Some s)
       → HoldsDocument depth text (put name d ms) (record p { places = record { schema = Some s; dictionaries = p.places.dictionaries } })
-  schema_taken s e spelled apart =
+  schema_taken s e stands =
       let no_batches = no_member member.Schema member.Batches name e schema_apart in
       record {
-        schema = (d, here member.Schema name d ms e, spelled, apart);
+        schema = subst (λ o. StandsOn depth text o (Some s)) (sym (here member.Schema name d ms e)) stands;
         dictionaries = same_dictionaries_place (no_member member.Schema member.Dictionaries name e schema_not_dictionaries);
         batches = same_batches no_batches;
         file = same_file no_batches;
       }
 
-  pub dictionaries_taken : (s : Stretch) → name ≡ member_name member.Dictionaries → SpellsAt depth (drop s.start text) d (drop s.end text) → begins_colon (lex between (drop s.end text)) ≡ false
+  pub dictionaries_taken : (s : Stretch) → name ≡ member_name member.Dictionaries → StandsOn depth text (Some d) (Some s)
       → HoldsDocument depth text (put name d ms) (record p { places = record { schema = p.places.schema; dictionaries = Some s } })
-  dictionaries_taken s e spelled apart =
+  dictionaries_taken s e stands =
       let no_batches = no_member member.Dictionaries member.Batches name e dictionaries_apart in
       record {
         schema = same_schema_place (λ f. schema_not_dictionaries (sym f ∙ e));
-        dictionaries = (d, here member.Dictionaries name d ms e, spelled, apart);
+        dictionaries = subst (λ o. StandsOn depth text o (Some s)) (sym (here member.Dictionaries name d ms e)) stands;
         batches = same_batches no_batches;
         file = same_file no_batches;
       }
 
-  pub batches_taken : (s : Stretch) (f : Option FileAt) → name ≡ member_name member.Batches → SpellsAt depth (drop s.start text) d (drop s.end text) → begins_colon (lex between (drop s.end text)) ≡ false → IsFileAt depth text (Some d) f
+  pub batches_taken : (s : Stretch) (f : Option FileAt) → name ≡ member_name member.Batches → StandsOn depth text (Some d) (Some s) → IsFileAt depth text (Some d) f
       → HoldsDocument depth text (put name d ms) (record p { batches = Some s; file = f })
-  batches_taken s f e spelled apart is =
+  batches_taken s f e stands is =
       let found = here member.Batches name d ms e in
       record {
         schema = same_schema_place (λ g. schema_apart (sym g ∙ e));
         dictionaries = same_dictionaries_place (λ g. dictionaries_apart (sym g ∙ e));
-        batches = (d, found, spelled, apart);
+        batches = subst (λ o. StandsOn depth text o (Some s)) (sym found) stands;
         file = subst (λ o. IsFileAt depth text o f) (sym found) is;
       }
 

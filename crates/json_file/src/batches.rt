@@ -7,12 +7,13 @@ ghost use Rattle.json_read.specs.JsonTable.{table_of};
 ghost use Rattle.json_read.specs.CatalogParts.{coding_of};
 ghost use Rattle.json_read.specs.JsonBatch.{ReadsBatch};
 ghost use Rattle.json_scan.specs.Spelling.{SpellsAt, before};
+ghost use Rattle.json_stream.specs.Cursor.{HasValue, IsBehind};
 ghost use Rattle.json_file.specs.Batches.{AreBatches};
 
 use arrays::{RecordBatch, Schema};
 use json_read::Coding;
-use json_scan::{ItemVisitor, Miss, Placed, push, read_array};
-use json_stream::read_batch;
+use json_scan::{ItemVisitor, Miss, Placed, ScanResult, push, read_array};
+use json_stream::{Cursor, read_batch};
 use std::alloc::Global;
 use std::sync::Arc;
 
@@ -21,18 +22,13 @@ fn read_shared(
     alloc: Global,
     schema: &Arc<Schema>,
     catalog: &[Option<Coding>],
-    text: &str,
-    at: usize,
-    depth: usize,
-) -> Result<Placed<Arc<RecordBatch>>, Miss>
-    requires { at ≤ length text.now }
+    cursor: Cursor,
+) -> ScanResult<Arc<RecordBatch>>
     ensures fields { IfOk result (λ r. (arc_value r.value).fields ≡ arc_value schema.now) }
-    ensures ok { IfOk result (λ r. (d : Data) × SpellsAt depth (drop at text.now) d (drop r.end text.now)
-        × ReadsBatch (arc_value schema.now) (map (option_map coding_of) catalog.now) d (table_of (arc_value r.value))) }
-    ensures onward { IfOk result (λ r. at < r.end) }
-    ensures within { IfOk result (λ r. r.end ≤ length text.now) }
+    ensures ok { IfOk result (λ r. HasValue cursor.entry r.end (λ d. ReadsBatch (arc_value schema.now) (map (option_map coding_of) catalog.now) d (table_of (arc_value r.value)))) }
+    ensures onward { IfOk result (λ r. IsBehind cursor.entry r.end) }
 {
-    let batch = read_batch(alloc, schema, catalog, text, at, depth)?;
+    let batch = read_batch(alloc, schema, catalog, cursor.text, cursor.at, cursor.depth)?;
     match Arc::new(alloc, batch.value) {
         Ok(value) => Ok(Placed {
             value,
@@ -61,7 +57,8 @@ impl ItemVisitor for Batches<'_> {
         × AreBatches (arc_value first.schema.now) (map (option_map coding_of) first.catalog.now) ds (map arc_value now.batches.items) };
 
     fn visit(&mut self, text: &str, at: usize, depth: usize) -> Result<usize, Miss> {
-        let batch = read_shared(self.alloc, self.schema, self.catalog, text, at, depth)?;
+        let cursor = Cursor { text, at, depth };
+        let batch = read_shared(self.alloc, self.schema, self.catalog, cursor)?;
         push(&mut self.batches, batch.value)?;
         Ok(batch.end)
     }
@@ -75,7 +72,7 @@ pub fn read_batches(
     text: &str,
     at: usize,
     depth: usize,
-) -> Result<Placed<Vec<Arc<RecordBatch>>>, Miss>
+) -> ScanResult<Vec<Arc<RecordBatch>>>
     requires { at ≤ length text.now }
     ensures ok { IfOk result (λ r. (ds : List Data) × SpellsAt depth (drop at text.now) (array (before ds no_items)) (drop r.end text.now)
         × AreBatches (arc_value schema.now) (map (option_map coding_of) catalog.now) ds (map arc_value r.value.items)) }

@@ -16,7 +16,7 @@ use crate::head::pass_member;
 use arrays::Words;
 use json_read::{Coding, Encoding, Place, has_some, place_of, places_of};
 use json_scan::{Container, Miss, ends_in, push};
-use json_stream::Stretch;
+use json_stream::{Cursor, Stretch};
 use std::alloc::Global;
 use std::collections::BTreeMap;
 use std::sync::Arc;
@@ -121,10 +121,11 @@ fn entries_at(
     let Some(place) = place else {
         return Err(Miss::Unread);
     };
-    if place.start > text.len() {
+    let at = place.start;
+    if at > text.len() {
         return Err(Miss::Unread);
     }
-    let entries = read_entries(alloc, text, place.start, depth)?;
+    let entries = read_entries(alloc, Cursor { text, at, depth })?;
     if entries.end == place.end && ends_in(text, entries.end, Container::Object) {
         Ok(entries.value)
     } else {
@@ -139,12 +140,15 @@ fn check_at(text: &str, place: Option<Stretch>, depth: usize) -> Result<(), Miss
     let Some(place) = place else {
         return Ok(());
     };
-    if place.start > text.len() {
+    let at = place.start;
+    if at > text.len() {
         return Err(Miss::Unread);
     }
-    match pass_member(text, place.start, depth) {
-        Some(passed) if passed == place => Ok(()),
-        _ => Err(Miss::Unread),
+    let passed = pass_member(Cursor { text, at, depth })?;
+    if passed == place {
+        Ok(())
+    } else {
+        Err(Miss::Unread)
     }
 }
 

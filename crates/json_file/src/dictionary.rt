@@ -2,19 +2,20 @@
 
 ghost use Rattle.std.specs.Prelude.{◌≡◌, ◌<◌, ◌≤◌, List, Some, length, drop, IfOk, IfSome};
 ghost use Rattle.std.specs.Arc.{arc_value};
-ghost use Rattle.json_read.specs.Data.{Data, array, no_items};
+ghost use Rattle.json_read.specs.Data.{Data};
 ghost use Rattle.json_read.specs.JsonDictionary.{WrapsTexts};
 ghost use Rattle.json_read.specs.JsonEncoding.{id_of};
-ghost use Rattle.json_scan.specs.Spelling.{Spells, SpellsAt, before};
+ghost use Rattle.json_scan.specs.Spelling.{Spells};
+ghost use Rattle.json_stream.specs.Cursor.{HasValue, HasValues, IsBehind};
 ghost use Rattle.json_file.specs.Dictionary.{AreEntries, AreWords, IsEntry};
 
 use crate::texts::read_texts;
 use arrays::{INT64, Words};
 use json_read::Member;
 use json_scan::{
-    ItemVisitor, MemberVisitor, Miss, Placed, pass_over, push, read_array, read_object,
+    ItemVisitor, MemberVisitor, Miss, Placed, ScanResult, pass_over, push, read_array, read_object,
 };
-use json_stream::read_whole;
+use json_stream::{Cursor, read_whole};
 use std::alloc::Global;
 use std::sync::Arc;
 
@@ -42,18 +43,11 @@ fn read_id(text: &str, at: usize) -> Option<Placed<i128>>
 }
 
 /// The texts of what an entry has as its `data`, which stands here, or after spaces, to be shared.
-fn read_words(
-    alloc: Global,
-    text: &str,
-    at: usize,
-    depth: usize,
-) -> Result<Placed<Arc<Words>>, Miss>
-    requires { at ≤ length text.now }
-    ensures ok { IfOk result (λ r. (d : Data) × SpellsAt depth (drop at text.now) d (drop r.end text.now) × WrapsTexts d (arc_value r.value).items) }
-    ensures onward { IfOk result (λ r. at < r.end) }
-    ensures within { IfOk result (λ r. r.end ≤ length text.now) }
+fn read_words(alloc: Global, cursor: Cursor) -> ScanResult<Arc<Words>>
+    ensures ok { IfOk result (λ r. HasValue cursor.entry r.end (λ d. WrapsTexts d (arc_value r.value).items)) }
+    ensures onward { IfOk result (λ r. IsBehind cursor.entry r.end) }
 {
-    let texts = read_texts(alloc, text, at, depth)?;
+    let texts = read_texts(alloc, cursor)?;
     match Arc::new(alloc, Words::of(texts.value)) {
         Ok(value) => Ok(Placed {
             value,
@@ -64,18 +58,11 @@ fn read_words(
 }
 
 /// The same; what isn't read so is passed over.
-fn read_or_pass(
-    alloc: Global,
-    text: &str,
-    at: usize,
-    depth: usize,
-) -> Result<Placed<Option<Arc<Words>>>, Miss>
-    requires { at ≤ length text.now }
-    ensures ok { IfOk result (λ r. (d : Data) × SpellsAt depth (drop at text.now) d (drop r.end text.now) × AreWords (Some d) r.value) }
-    ensures onward { IfOk result (λ r. at < r.end) }
-    ensures within { IfOk result (λ r. r.end ≤ length text.now) }
+fn read_or_pass(alloc: Global, cursor: Cursor) -> ScanResult<Option<Arc<Words>>>
+    ensures ok { IfOk result (λ r. HasValue cursor.entry r.end (λ d. AreWords (Some d) r.value)) }
+    ensures onward { IfOk result (λ r. IsBehind cursor.entry r.end) }
 {
-    match read_words(alloc, text, at, depth) {
+    match read_words(alloc, cursor) {
         Ok(words) => return Ok(Placed {
             value: Some(words.value),
             end: words.end,
@@ -83,7 +70,7 @@ fn read_or_pass(
         Err(Miss::NoMemory) => return Err(Miss::NoMemory),
         Err(Miss::Unread) => {}
     }
-    let end = pass_over(text, at, depth)?;
+    let end = pass_over(cursor.text, cursor.at, cursor.depth)?;
     Ok(Placed { value: None, end })
 }
 
@@ -109,7 +96,7 @@ impl MemberVisitor for EntryParts {
             return Ok(id.end);
         }
         if name == Member::Texts.name() {
-            let words = read_or_pass(self.alloc, text, at, depth)?;
+            let words = read_or_pass(self.alloc, Cursor { text, at, depth })?;
             self.words = words.value;
             return Ok(words.end);
         }
@@ -118,23 +105,16 @@ impl MemberVisitor for EntryParts {
 }
 
 /// The entry that stands here, or after spaces.
-fn read_entry(
-    alloc: Global,
-    text: &str,
-    at: usize,
-    depth: usize,
-) -> Result<Placed<DictionaryEntry>, Miss>
-    requires { at ≤ length text.now }
-    ensures ok { IfOk result (λ r. (d : Data) × SpellsAt depth (drop at text.now) d (drop r.end text.now) × IsEntry d r.value) }
-    ensures onward { IfOk result (λ r. at < r.end) }
-    ensures within { IfOk result (λ r. r.end ≤ length text.now) }
+fn read_entry(alloc: Global, cursor: Cursor) -> ScanResult<DictionaryEntry>
+    ensures ok { IfOk result (λ r. HasValue cursor.entry r.end (λ d. IsEntry d r.value)) }
+    ensures onward { IfOk result (λ r. IsBehind cursor.entry r.end) }
 {
     let mut parts = EntryParts {
         alloc,
         id: None,
         words: None,
     };
-    let end = read_object(alloc, text, at, depth, &mut parts)?;
+    let end = read_object(alloc, cursor.text, cursor.at, cursor.depth, &mut parts)?;
     let EntryParts { id, words, .. } = parts;
     let Some(id) = id else {
         return Err(Miss::Unread);
@@ -158,30 +138,22 @@ impl ItemVisitor for Entries {
     ghost holds = { λ text depth first ds now. AreEntries ds now.entries.items };
 
     fn visit(&mut self, text: &str, at: usize, depth: usize) -> Result<usize, Miss> {
-        let entry = read_entry(self.alloc, text, at, depth)?;
+        let entry = read_entry(self.alloc, Cursor { text, at, depth })?;
         push(&mut self.entries, entry.value)?;
         Ok(entry.end)
     }
 }
 
 /// The entries that stand here, or after spaces.
-pub(crate) fn read_entries(
-    alloc: Global,
-    text: &str,
-    at: usize,
-    depth: usize,
-) -> Result<Placed<Vec<DictionaryEntry>>, Miss>
-    requires { at ≤ length text.now }
-    ensures ok { IfOk result (λ r. (ds : List Data) × SpellsAt depth (drop at text.now) (array (before ds no_items)) (drop r.end text.now)
-        × AreEntries ds r.value.items) }
-    ensures onward { IfOk result (λ r. at < r.end) }
-    ensures within { IfOk result (λ r. r.end ≤ length text.now) }
+pub(crate) fn read_entries(alloc: Global, cursor: Cursor) -> ScanResult<Vec<DictionaryEntry>>
+    ensures ok { IfOk result (λ r. HasValues cursor.entry r.end (λ ds. AreEntries ds r.value.items)) }
+    ensures onward { IfOk result (λ r. IsBehind cursor.entry r.end) }
 {
     let mut entries = Entries {
         alloc,
         entries: Vec::new(alloc),
     };
-    let end = read_array(text, at, depth, &mut entries)?;
+    let end = read_array(cursor.text, cursor.at, cursor.depth, &mut entries)?;
     let Entries { entries, .. } = entries;
     Ok(Placed {
         value: entries,

@@ -3,18 +3,16 @@
 ghost use Rattle.std.specs.Prelude.{◌≡◌, ◌<◌, ◌≤◌, Option, Some, length, drop, IfOk, IfSome};
 ghost use Rattle.json_read.specs.Data.{Data, Members, object};
 ghost use Rattle.json_read.specs.JsonFile.{AreUnder, Reads, ReadsFile, file_of};
-ghost use Rattle.json_scan.specs.Spelling.{SpellsAt};
 ghost use Rattle.json_stream.specs.Column.{StandsOn};
+ghost use Rattle.json_stream.specs.Cursor.{HasValue, IsBehind};
 ghost use Rattle.json_file.specs.Document.{HoldsDocument, HoldsFile, IsFileAt, StandsAt};
 
 use crate::batches::read_batches;
 use crate::head::{HeadPlaces, head_at, pass_member};
 use arrays::File;
 use json_read::{FileHead, Member};
-use json_scan::{
-    Container, MemberVisitor, Miss, Placed, after_space, ends_in, pass_over, read_object,
-};
-use json_stream::Stretch;
+use json_scan::{MemberVisitor, Miss, Placed, ScanResult, after_space, pass_over, read_object};
+use json_stream::{Cursor, Stretch, member_stretch};
 use std::alloc::Global;
 
 /// How deep a document may be nested. (`serde_json`, recursion limit)
@@ -39,21 +37,20 @@ pub(crate) struct DocumentParts {
 }
 
 /// The file whose batches stand here, or after spaces, by the schema and the dictionaries that stand at those places.
-fn read_by(
-    alloc: Global,
-    places: HeadPlaces,
-    text: &str,
-    at: usize,
-    depth: usize,
-) -> Result<Placed<File>, Miss>
-    requires { at ≤ length text.now }
-    ensures ok { IfOk result (λ r. (d : Data) × SpellsAt depth (drop at text.now) d (drop r.end text.now)
-        × (head : Data) × StandsAt depth text.now head places × HoldsFile head (Some d) r.value) }
-    ensures onward { IfOk result (λ r. at < r.end) }
-    ensures within { IfOk result (λ r. r.end ≤ length text.now) }
+fn read_by(alloc: Global, places: HeadPlaces, cursor: Cursor) -> ScanResult<File>
+    ensures ok { IfOk result (λ r. HasValue cursor.entry r.end (λ d. (head : Data) × StandsAt cursor.entry.depth cursor.entry.text.now head places
+        × HoldsFile head (Some d) r.value)) }
+    ensures onward { IfOk result (λ r. IsBehind cursor.entry r.end) }
 {
-    let FileHead { schema, catalog } = head_at(alloc, text, places, depth)?;
-    let batches = read_batches(alloc, &schema, &catalog, text, at, depth)?;
+    let FileHead { schema, catalog } = head_at(alloc, cursor.text, places, cursor.depth)?;
+    let batches = read_batches(
+        alloc,
+        &schema,
+        &catalog,
+        cursor.text,
+        cursor.at,
+        cursor.depth,
+    )?;
     Ok(Placed {
         value: File::new(schema, batches.value),
         end: batches.end,
@@ -61,21 +58,12 @@ fn read_by(
 }
 
 /// The same where it is known, or can be guessed, how they are read; else, or where the guess is wrong, they are passed over.
-fn read_or_pass(
-    alloc: Global,
-    known: HeadPlaces,
-    text: &str,
-    at: usize,
-    depth: usize,
-) -> Result<Placed<Option<FileAt>>, Miss>
-    requires { at ≤ length text.now }
-    ensures ok { IfOk result (λ r. (d : Data) × SpellsAt depth (drop at text.now) d (drop r.end text.now)
-        × IsFileAt depth text.now (Some d) r.value) }
-    ensures onward { IfOk result (λ r. at < r.end) }
-    ensures within { IfOk result (λ r. r.end ≤ length text.now) }
+fn read_or_pass(alloc: Global, known: HeadPlaces, cursor: Cursor) -> ScanResult<Option<FileAt>>
+    ensures ok { IfOk result (λ r. HasValue cursor.entry r.end (λ d. IsFileAt cursor.entry.depth cursor.entry.text.now (Some d) r.value)) }
+    ensures onward { IfOk result (λ r. IsBehind cursor.entry r.end) }
 {
-    let places = known.guessed(alloc, text, depth);
-    match read_by(alloc, places, text, at, depth) {
+    let places = known.guessed(alloc, cursor.text, cursor.depth);
+    match read_by(alloc, places, cursor) {
         Ok(read) => return Ok(Placed {
             value: Some(FileAt {
                 places,
@@ -86,7 +74,7 @@ fn read_or_pass(
         Err(Miss::NoMemory) => return Err(Miss::NoMemory),
         Err(Miss::Unread) => {}
     }
-    let end = pass_over(text, at, depth)?;
+    let end = pass_over(cursor.text, cursor.at, cursor.depth)?;
     Ok(Placed { value: None, end })
 }
 
@@ -96,21 +84,15 @@ impl MemberVisitor for DocumentParts {
     ghost holds = { λ text depth first ms now. HoldsDocument depth text ms now };
 
     fn visit(&mut self, text: &str, name: &str, at: usize, depth: usize) -> Result<usize, Miss> {
+        let cursor = Cursor { text, at, depth };
         if name == Member::Batches.name() {
-            let batches = read_or_pass(self.alloc, self.places, text, at, depth)?;
-            if !ends_in(text, batches.end, Container::Object) {
-                return Err(Miss::Unread);
-            }
-            self.batches = Some(Stretch {
-                start: at,
-                end: batches.end,
-            });
+            let batches = read_or_pass(self.alloc, self.places, cursor)?;
+            let place = member_stretch(cursor, batches.end)?;
+            self.batches = Some(place);
             self.file = batches.value;
             return Ok(batches.end);
         }
-        let Some(place) = pass_member(text, at, depth) else {
-            return Err(Miss::Unread);
-        };
+        let place = pass_member(cursor)?;
         if name == Member::Schema.name() {
             self.places.schema = Some(place);
         } else if name == Member::Dictionaries.name() {
@@ -134,10 +116,11 @@ fn file_at(
     let Some(place) = batches else {
         return Err(Miss::Unread);
     };
-    if place.start > text.len() {
+    let at = place.start;
+    if at > text.len() {
         return Err(Miss::Unread);
     }
-    let read = read_by(alloc, places, text, place.start, depth)?;
+    let read = read_by(alloc, places, Cursor { text, at, depth })?;
     if read.end == place.end {
         Ok(read.value)
     } else {

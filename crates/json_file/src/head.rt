@@ -1,8 +1,7 @@
 //! What a document says before its batches, wherever it stands.
 
-ghost use Rattle.std.specs.Prelude.{◌≡◌, ◌<◌, ◌≤◌, false, length, drop, map, option_map, Some, IfOk, IfSome};
+ghost use Rattle.std.specs.Prelude.{map, option_map, Some, IfOk};
 ghost use Rattle.std.specs.Arc.{arc_value};
-ghost use Rattle.json_scan.specs.Lex.{lex, between, begins_colon};
 ghost use Rattle.json_read.specs.Data.{Data};
 ghost use Rattle.json_read.specs.View.{view};
 ghost use Rattle.json_read.specs.CatalogParts.{coding_of};
@@ -10,14 +9,14 @@ ghost use Rattle.json_read.specs.EncodingParts.{AreEncoded, parts_of};
 ghost use Rattle.json_read.specs.JsonCatalog.{HasCatalog};
 ghost use Rattle.json_read.specs.JsonFields.{ReadsSchema};
 ghost use Rattle.json_read.specs.JsonFile.{HasSchema};
-ghost use Rattle.json_scan.specs.Spelling.{SpellsAt};
 ghost use Rattle.json_stream.specs.Column.{StandsOn};
+ghost use Rattle.json_stream.specs.Cursor.{HasValue, IsBehind};
 ghost use Rattle.json_file.specs.Document.{StandsAt};
 
 use crate::catalog::read_catalog;
 use json_read::{EncodedSchema, FileHead, JsonFaultKind, Member, Value, read_schema};
-use json_scan::{Container, Miss, ends_in, pass_value, read_key, read_value};
-use json_stream::Stretch;
+use json_scan::{Container, Miss, ends_in, pass_over, read_key, read_value};
+use json_stream::{Cursor, Stretch, member_stretch};
 use memchr::memmem;
 use std::alloc::Global;
 
@@ -28,21 +27,14 @@ pub(crate) struct HeadPlaces {
     pub dictionaries: Option<Stretch>,
 }
 
-/// Where the value of a member stands that begins here, or after spaces.
-pub(crate) fn pass_member(text: &str, at: usize, depth: usize) -> Option<Stretch>
-    requires { at ≤ length text.now }
-    ensures reads { IfSome result (λ s. (d : Data) × SpellsAt depth (drop at text.now) d (drop s.end text.now)) }
-    ensures apart { IfSome result (λ s. begins_colon (lex between (drop s.end text.now)) ≡ false) }
-    ensures start { IfSome result (λ s. s.start ≡ at) }
-    ensures onward { IfSome result (λ s. at < s.end) }
-    ensures within { IfSome result (λ s. s.end ≤ length text.now) }
+/// Where the value of a member stands that begins at the cursor, or after spaces.
+pub(crate) fn pass_member(cursor: Cursor) -> Result<Stretch, Miss>
+    ensures stands { IfOk result (λ s. HasValue cursor.entry s.end (λ d. StandsOn cursor.entry.depth cursor.entry.text.now (Some d) (Some s))) }
+    ensures onward { IfOk result (λ s. IsBehind cursor.entry s.end) }
 {
-    let end = pass_value(text.as_bytes(), at, depth)?;
-    if ends_in(text, end, Container::Object) {
-        Some(Stretch { start: at, end })
-    } else {
-        None
-    }
+    let end = pass_over(cursor.text, cursor.at, cursor.depth)?;
+    let place = member_stretch(cursor, end)?;
+    Ok(place)
 }
 
 /// Where the value of the last member of that name stands in the text, of whatever object it is one: a guess.
@@ -54,7 +46,8 @@ fn last_member(alloc: Global, text: &str, name: &str, depth: usize) -> Option<St
     let mut buffer = Vec::new(alloc);
     let key = read_key(text, at, &mut buffer).ok()?;
     if key.value == name {
-        pass_member(text, key.end, depth)
+        let at = key.end;
+        pass_member(Cursor { text, at, depth }).ok()
     } else {
         None
     }

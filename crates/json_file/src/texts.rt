@@ -1,27 +1,24 @@
 //! The texts of a dictionary.
 
-ghost use Rattle.std.specs.Prelude.{◌≡◌, ◌<◌, ◌≤◌, ◌∷◌, [], Some, length, drop, IfOk, IfSome};
+ghost use Rattle.std.specs.Prelude.{◌≡◌, ◌∷◌, [], length, IfOk, IfSome};
 ghost use Rattle.arrays.specs.Kind.{utf8};
 ghost use Rattle.arrays.specs.Shape.{field_of, kind_of_field};
-ghost use Rattle.json_read.specs.Data.{Data};
 ghost use Rattle.json_read.specs.JsonDictionary.{WrapsTexts};
-ghost use Rattle.json_scan.specs.Spelling.{SpellsAt};
-ghost use Rattle.json_file.specs.Texts.{IsBatchOfTexts, IsOnlyColumn};
+ghost use Rattle.json_stream.specs.Cursor.{HasValue, IsBehind};
+ghost use Rattle.json_file.specs.Texts.{IsBatchOfTexts};
 
 use arrays::{Array, DataType, Field};
-use json_read::Member;
-use json_scan::{
-    ItemVisitor, MemberVisitor, Miss, Placed, after_space, pass_over, read_array, read_object,
-};
-use json_stream::{read_columns, read_natural};
+use json_scan::{ItemVisitor, Miss, Placed, ScanResult, after_space, read_array};
+use json_stream::{BatchMembers, Cursor, read_batch_members};
 use std::alloc::Global;
 
-/// The column of exactly one.
-fn only_column(mut columns: Vec<Array>) -> Option<Array>
-    ensures { IfSome result (λ a. columns.items ≡ a ∷ []) }
+/// The column of exactly one, if it has as many slots as the batch says.
+fn only_column(batch: BatchMembers) -> Option<Array>
+    ensures { IfSome result (λ a. (batch.columns.items ≡ a ∷ []) × (length a.items ≡ batch.count)) }
 {
+    let BatchMembers { count, mut columns } = batch;
     let column = columns.pop()?;
-    if columns.is_empty() {
+    if columns.is_empty() && column.len() == count as usize {
         Some(column)
     } else {
         None
@@ -39,88 +36,19 @@ fn field_of_texts(alloc: Global) -> Field
     }
 }
 
-/// The column of texts that stands here, or after spaces, in an array of exactly one.
-fn read_column_of_texts(
-    alloc: Global,
-    text: &str,
-    at: usize,
-    depth: usize,
-) -> Result<Placed<Array>, Miss>
-    requires { at ≤ length text.now }
-    ensures ok { IfOk result (λ r. (d : Data) × SpellsAt depth (drop at text.now) d (drop r.end text.now) × IsOnlyColumn (Some d) (Some r.value)) }
-    ensures onward { IfOk result (λ r. at < r.end) }
-    ensures within { IfOk result (λ r. r.end ≤ length text.now) }
+/// The texts of the dictionary's batch that stands at the cursor, or after spaces.
+fn read_batch_of_texts(alloc: Global, cursor: Cursor) -> ScanResult<Array>
+    ensures ok { IfOk result (λ r. HasValue cursor.entry r.end (λ d. IsBatchOfTexts d r.value)) }
+    ensures onward { IfOk result (λ r. IsBehind cursor.entry r.end) }
 {
     let fields = [field_of_texts(alloc)];
-    let columns = read_columns(alloc, &fields, &[None], text, at, depth)?;
-    match only_column(columns.value) {
+    let batch = read_batch_members(alloc, &fields, &[None], cursor)?;
+    match only_column(batch.value) {
         Some(value) => Ok(Placed {
             value,
-            end: columns.end,
+            end: batch.end,
         }),
         None => Err(Miss::Unread),
-    }
-}
-
-/// What has been read of the batch of a dictionary.
-#[derive(Drop)]
-pub(crate) struct TextsParts {
-    alloc: Global,
-    pub count: Option<u32>,
-    pub texts: Option<Array>,
-}
-
-impl MemberVisitor for TextsParts {
-    ghost use Rattle.json_file.specs.Texts.{HoldsTexts};
-
-    ghost holds = { λ text depth first ms now. HoldsTexts ms now };
-
-    fn visit(&mut self, text: &str, name: &str, at: usize, depth: usize) -> Result<usize, Miss> {
-        if name == Member::Count.name() {
-            let Some(count) = read_natural(text.as_bytes(), at) else {
-                return Err(Miss::Unread);
-            };
-            self.count = Some(count.value);
-            return Ok(count.end);
-        }
-        if name == Member::Columns.name() {
-            let texts = read_column_of_texts(self.alloc, text, at, depth)?;
-            self.texts = Some(texts.value);
-            return Ok(texts.end);
-        }
-        pass_over(text, at, depth)
-    }
-}
-
-/// The texts of the dictionary's batch that stands here, or after spaces.
-fn read_batch_of_texts(
-    alloc: Global,
-    text: &str,
-    at: usize,
-    depth: usize,
-) -> Result<Placed<Array>, Miss>
-    requires { at ≤ length text.now }
-    ensures ok { IfOk result (λ r. (d : Data) × SpellsAt depth (drop at text.now) d (drop r.end text.now) × IsBatchOfTexts d r.value) }
-    ensures onward { IfOk result (λ r. at < r.end) }
-    ensures within { IfOk result (λ r. r.end ≤ length text.now) }
-{
-    let mut parts = TextsParts {
-        alloc,
-        count: None,
-        texts: None,
-    };
-    let end = read_object(alloc, text, at, depth, &mut parts)?;
-    let TextsParts { count, texts, .. } = parts;
-    let Some(count) = count else {
-        return Err(Miss::Unread);
-    };
-    let Some(value) = texts else {
-        return Err(Miss::Unread);
-    };
-    if value.len() == count as usize {
-        Ok(Placed { value, end })
-    } else {
-        Err(Miss::Unread)
     }
 }
 
@@ -140,22 +68,20 @@ impl ItemVisitor for OnlyBatch {
         if self.texts.is_some() {
             return Err(Miss::Unread);
         }
-        let texts = read_batch_of_texts(self.alloc, text, at, depth)?;
+        let texts = read_batch_of_texts(self.alloc, Cursor { text, at, depth })?;
         self.texts = Some(texts.value);
         Ok(texts.end)
     }
 }
 
 /// The texts of the batch that stands here, or after spaces, in an array of exactly one.
-fn read_wrapped(alloc: Global, text: &str, at: usize, depth: usize) -> Result<Placed<Array>, Miss>
-    requires { at ≤ length text.now }
+fn read_wrapped(alloc: Global, cursor: Cursor) -> ScanResult<Array>
     ensures kind { IfOk result (λ r. r.value.kind ≡ utf8) }
-    ensures ok { IfOk result (λ r. (d : Data) × SpellsAt depth (drop at text.now) d (drop r.end text.now) × WrapsTexts d r.value.items) }
-    ensures onward { IfOk result (λ r. at < r.end) }
-    ensures within { IfOk result (λ r. r.end ≤ length text.now) }
+    ensures ok { IfOk result (λ r. HasValue cursor.entry r.end (λ d. WrapsTexts d r.value.items)) }
+    ensures onward { IfOk result (λ r. IsBehind cursor.entry r.end) }
 {
     let mut batch = OnlyBatch { alloc, texts: None };
-    let end = read_array(text, at, depth, &mut batch)?;
+    let end = read_array(cursor.text, cursor.at, cursor.depth, &mut batch)?;
     let OnlyBatch { texts, .. } = batch;
     let Some(value) = texts else {
         return Err(Miss::Unread);
@@ -164,23 +90,16 @@ fn read_wrapped(alloc: Global, text: &str, at: usize, depth: usize) -> Result<Pl
 }
 
 /// The texts of what an entry has as its `data`, which stands here, or after spaces: a batch, or an array of exactly one.
-pub(crate) fn read_texts(
-    alloc: Global,
-    text: &str,
-    at: usize,
-    depth: usize,
-) -> Result<Placed<Array>, Miss>
-    requires { at ≤ length text.now }
+pub(crate) fn read_texts(alloc: Global, cursor: Cursor) -> ScanResult<Array>
     ensures kind { IfOk result (λ r. r.value.kind ≡ utf8) }
-    ensures ok { IfOk result (λ r. (d : Data) × SpellsAt depth (drop at text.now) d (drop r.end text.now) × WrapsTexts d r.value.items) }
-    ensures onward { IfOk result (λ r. at < r.end) }
-    ensures within { IfOk result (λ r. r.end ≤ length text.now) }
+    ensures ok { IfOk result (λ r. HasValue cursor.entry r.end (λ d. WrapsTexts d r.value.items)) }
+    ensures onward { IfOk result (λ r. IsBehind cursor.entry r.end) }
 {
-    let bytes = text.as_bytes();
-    let start = after_space(bytes, at);
+    let bytes = cursor.text.as_bytes();
+    let start = after_space(bytes, cursor.at);
     if bytes[start..].starts_with(b"[") {
-        read_wrapped(alloc, text, at, depth)
+        read_wrapped(alloc, cursor)
     } else {
-        read_batch_of_texts(alloc, text, at, depth)
+        read_batch_of_texts(alloc, cursor)
     }
 }

@@ -1,5 +1,5 @@
 -- Values that stand at a place: those of one token, and what the grammar makes of a text of which only the lexemes count.
-use Rattle.std.proofs.Common.{◌≡◌, ◌∙◌, ℕ, Bool, true, false, List, [], ◌∷◌, Option, Some, None, option_map, option_and_then, Result, Ok, Err, IfOk, refl, sym, ap}
+use Rattle.std.proofs.Common.{◌≡◌, ◌≢◌, ◌∙◌, ℕ, ◌<◌, Bool, true, false, List, [], ◌∷◌, length, drop, get_or, Option, Some, None, option_map, option_and_then, Result, Ok, Err, IfOk, refl, sym, ap}
 use Rattle.json.specs.Token.{Token}
 use Rattle.json.specs.Json as json
 use Rattle.json.specs.Json.{parse_map, value}
@@ -9,6 +9,7 @@ use Rattle.serde_json.specs.Data.{Data, Items, Members}
 use Rattle.serde_json.specs.Data as data_of
 use Rattle.serde_json.specs.Read.{of_json, converted, number_of, max_depth, read}
 use Rattle.json_scan.specs.Spelling.{tokens_in, SpellsAt, Spells}
+use Rattle.json_scan.proofs.Lexemes.{byte_stands}
 
 -- ---- under the conversion to data
 
@@ -90,6 +91,13 @@ token_spells xs ys t d lexed is depth =
 
 pub respaced : (depth : ℕ) (xs zs ys : List ℕ) (d : Data) → lex between xs ≡ lex between zs → SpellsAt depth xs d ys → SpellsAt depth zs d ys
 respaced depth xs zs ys d same s = record { reads = λ p may apart. ap (λ ls. converted of_json (value depth (punctuate p ls))) (sym same) ∙ s.reads p may apart }
+
+-- a value behind spaces that begins with a byte
+pub behind_spaces : (depth : ℕ) (bytes d : List ℕ) (at start x : ℕ) (v : Data) (ys : List ℕ) → bytes ≡ d → lex between (drop start bytes) ≡ lex between (drop at bytes) → get_or bytes start 32 ≡ x → x ≢ 32
+    → (start < length d → get_or d start 0 ≡ x → SpellsAt depth (drop start d) v ys) → SpellsAt depth (drop at d) v ys
+behind_spaces depth bytes d at start x v ys same spaces e apart there =
+    let first = byte_stands d start x (rw same at e) apart in
+    respaced depth (drop start d) (drop at d) ys v (rw same at spaces) (there first.0 first.1)
 
 -- ---- one value at a place
 

@@ -3,10 +3,10 @@
 ghost use Rattle.std.specs.Prelude.{◌≡◌, ◌-◌, ◌<◌, ◌≤◌, ◌++◌, ◌∷◌, [], ℕ, List, length, drop, get_or, IfOk};
 ghost use Rattle.serde_json.specs.Data.{Data, array, no_items};
 ghost use Rattle.json_scan.specs.Scalars.{AreIntegers};
-ghost use Rattle.json_scan.specs.Spelling.{SpellsAt, SpellsItems, before};
+ghost use Rattle.json_scan.specs.Spelling.{SpellsAt, before};
 
-use crate::mark::{Container, Mark, empty_end, read_mark};
-use crate::miss::{Miss, push};
+use crate::mark::{Container, Mark, empty_end, next_mark};
+use crate::miss::{Miss, ScanResult, push};
 use crate::number::read_integer;
 use crate::space::{Placed, after_space};
 use crate::word::byte_at;
@@ -24,33 +24,6 @@ pub trait ItemVisitor {
             × ((first : Self) (ds : List Data) → holds text.now depth first ds self.old → holds text.now depth first (ds ++ d ∷ []) self.new)) }
         ensures onward { IfOk result (λ end. at < end) }
         ensures within { IfOk result (λ end. end ≤ length text.now) };
-}
-
-/// Gives a visitor the items that begin here, and passes over the bracket that closes their array.
-fn read_items<V: ItemVisitor>(
-    text: &str,
-    start: usize,
-    depth: usize,
-    visitor: &mut V,
-) -> Result<usize, Miss>
-    requires { start ≤ length text.now }
-    ensures ok { IfOk result (λ end. (ds : List Data) × SpellsItems depth (drop start text.now) (before ds no_items) (drop end text.now)
-        × (V.holds text.now depth visitor.old [] visitor.old → V.holds text.now depth visitor.old ds visitor.new)) }
-    ensures onward { IfOk result (λ end. start < end) }
-    ensures within { IfOk result (λ end. end ≤ length text.now) }
-{
-    let mut at = start;
-    'items: loop {
-        let end = visitor.visit(text, at, depth)?;
-        let Some(mark) = read_mark(text.as_bytes(), end, Container::Array) else {
-            return Err(Miss::Unread);
-        };
-        at = mark.end;
-        match mark.value {
-            Mark::End => return Ok(at),
-            Mark::Comma => {}
-        }
-    }
 }
 
 /// Gives a visitor the items of the array that stands here, or after spaces, nested as deep as `depth` at most. The place is the one behind the
@@ -72,9 +45,17 @@ pub fn read_array<V: ItemVisitor>(
     if depth == 0 || byte_at(bytes, start) != b'[' {
         return Err(Miss::Unread);
     }
-    match empty_end(bytes, start + 1, Container::Array) {
-        Some(end) => Ok(end),
-        None => read_items(text, start + 1, depth - 1, visitor),
+    if let Some(end) = empty_end(bytes, start + 1, Container::Array) {
+        return Ok(end);
+    }
+    let mut next = start + 1;
+    'items: loop {
+        let end = visitor.visit(text, next, depth - 1)?;
+        let mark = next_mark(text, end, Container::Array)?;
+        match mark.value {
+            Mark::End => return Ok(mark.end),
+            Mark::Comma => next = mark.end,
+        }
     }
 }
 
@@ -97,12 +78,7 @@ impl ItemVisitor for Integers {
 }
 
 /// The integers of the array that stands here, or after spaces. At a depth of 0 no array is read.
-pub fn read_integers(
-    alloc: Global,
-    text: &str,
-    at: usize,
-    depth: usize,
-) -> Result<Placed<Vec<i128>>, Miss>
+pub fn read_integers(alloc: Global, text: &str, at: usize, depth: usize) -> ScanResult<Vec<i128>>
     requires { at ≤ length text.now }
     ensures ok { IfOk result (λ r. (ds : List Data) × SpellsAt depth (drop at text.now) (array (before ds no_items)) (drop r.end text.now)
         × AreIntegers ds r.value.items) }

@@ -20,7 +20,7 @@ pub use array::{ItemVisitor, read_array, read_integers};
 pub use json::{Reader, Scratch};
 pub use literal::{Literal, read_literal};
 pub use mark::{Container, Mark, empty_end, ends_in, read_mark};
-pub use miss::{Miss, push};
+pub use miss::{Miss, ScanResult, push};
 pub use number::{pass_number, read_integer};
 pub use object::{MemberVisitor, find_member, read_object};
 pub use space::{Placed, after_space};

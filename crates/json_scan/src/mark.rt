@@ -1,10 +1,11 @@
 //! What stands between the items of an array and the members of an object, and after the last. (RFC 8259, sections 4 and 5)
 
-ghost use Rattle.std.specs.Prelude.{◌≡◌, ◌<◌, ◌≤◌, length, drop, false, true, IfSome, IsTrue};
+ghost use Rattle.std.specs.Prelude.{◌≡◌, ◌<◌, ◌≤◌, length, drop, false, true, IfOk, IfSome, IsTrue};
 ghost use Rattle.json.specs.Lex.{lex, between, begins_colon, operator_lexeme};
 ghost use Rattle.json.specs.Word.{is_operator};
 ghost use Rattle.json_scan.specs.Spelling.{IsMark, mark_lexeme};
 
+use crate::miss::{Miss, ScanResult};
 use crate::space::{Placed, after_space};
 
 #[derive(Clone, Copy, Debug, Drop, PartialEq, Eq)]
@@ -59,6 +60,16 @@ pub fn read_mark(text: &[u8], at: usize, container: Container) -> Option<Placed<
         });
     }
     None
+}
+
+/// The same of a text.
+pub(crate) fn next_mark(text: &str, at: usize, container: Container) -> ScanResult<Mark>
+    requires { at ≤ length text.now }
+    ensures ok { IfOk result (λ r. IsMark container (drop at text.now) r.value (drop r.end text.now)) }
+    ensures onward { IfOk result (λ r. at < r.end) }
+    ensures within { IfOk result (λ r. r.end ≤ length text.now) }
+{
+    read_mark(text.as_bytes(), at, container).ok_or(Miss::Unread)
 }
 
 /// Whether an item or a member ends here, or after spaces: its mark follows, and no colon.

@@ -3,10 +3,10 @@
 ghost use Rattle.std.specs.Prelude.{◌≡◌, ◌-◌, ◌<◌, ◌≤◌, ◌∷◌, ℕ, List, length, drop, get_or, IfOk, IfSome};
 ghost use Rattle.serde_json.specs.Data.{Data, object, Members, no_members, put};
 ghost use Rattle.json_scan.specs.Member.{IsMemberAt};
-ghost use Rattle.json_scan.specs.Spelling.{IsKey, SpellsAt, SpellsMembers};
+ghost use Rattle.json_scan.specs.Spelling.{SpellsAt};
 
-use crate::mark::{Container, Mark, empty_end, read_mark};
-use crate::miss::Miss;
+use crate::mark::{Container, Mark, empty_end, next_mark};
+use crate::miss::{Miss, ScanResult};
 use crate::space::{Placed, after_space};
 use crate::text::read_key;
 use crate::value::pass_over;
@@ -25,36 +25,6 @@ pub trait MemberVisitor {
             × ((first : Self) (ms : Members) → holds text.now depth first ms self.old → holds text.now depth first (put name.now d ms) self.new)) }
         ensures onward { IfOk result (λ end. at < end) }
         ensures within { IfOk result (λ end. end ≤ length text.now) };
-}
-
-/// Gives a visitor the members that begin here, and passes over the brace that closes their object.
-fn read_members<V: MemberVisitor>(
-    alloc: Global,
-    text: &str,
-    start: usize,
-    depth: usize,
-    visitor: &mut V,
-) -> Result<usize, Miss>
-    requires { start ≤ length text.now }
-    ensures ok { IfOk result (λ end. (ms : Members) × SpellsMembers depth (drop start text.now) no_members ms (drop end text.now)
-        × (V.holds text.now depth visitor.old no_members visitor.old → V.holds text.now depth visitor.old ms visitor.new)) }
-    ensures onward { IfOk result (λ end. start < end) }
-    ensures within { IfOk result (λ end. end ≤ length text.now) }
-{
-    let mut buffer = Vec::new(alloc);
-    let mut at = start;
-    'members: loop {
-        let key = read_key(text, at, &mut buffer)?;
-        let end = visitor.visit(text, key.value, key.end, depth)?;
-        let Some(mark) = read_mark(text.as_bytes(), end, Container::Object) else {
-            return Err(Miss::Unread);
-        };
-        at = mark.end;
-        match mark.value {
-            Mark::End => return Ok(at),
-            Mark::Comma => {}
-        }
-    }
 }
 
 /// Gives a visitor the members of the object that stands here, or after spaces, nested as deep as `depth` at most. The place is the one behind the
@@ -77,9 +47,19 @@ pub fn read_object<V: MemberVisitor>(
     if depth == 0 || byte_at(bytes, start) != b'{' {
         return Err(Miss::Unread);
     }
-    match empty_end(bytes, start + 1, Container::Object) {
-        Some(end) => Ok(end),
-        None => read_members(alloc, text, start + 1, depth - 1, visitor),
+    if let Some(end) = empty_end(bytes, start + 1, Container::Object) {
+        return Ok(end);
+    }
+    let mut buffer = Vec::new(alloc);
+    let mut next = start + 1;
+    'members: loop {
+        let key = read_key(text, next, &mut buffer)?;
+        let end = visitor.visit(text, key.value, key.end, depth - 1)?;
+        let mark = next_mark(text, end, Container::Object)?;
+        match mark.value {
+            Mark::End => return Ok(mark.end),
+            Mark::Comma => next = mark.end,
+        }
     }
 }
 
@@ -110,7 +90,7 @@ pub fn find_member(
     at: usize,
     depth: usize,
     name: &str,
-) -> Result<Placed<Option<usize>>, Miss>
+) -> ScanResult<Option<usize>>
     requires { at ≤ length text.now }
     ensures ok { IfOk result (λ r. (ms : Members) × SpellsAt depth (drop at text.now) (object ms) (drop r.end text.now)
         × IsMemberAt (depth - 1) text.now name.now ms r.value) }

@@ -8,7 +8,7 @@ ghost use Rattle.serde_json.specs.Data.{string};
 ghost use Rattle.json_scan.specs.Scalars.{IsTextBody};
 ghost use Rattle.json_scan.specs.Spelling.{IsKey, IsString, Spells};
 
-use crate::miss::Miss;
+use crate::miss::{Miss, ScanResult};
 use crate::space::{Placed, after_space};
 use crate::word::byte_at;
 
@@ -205,11 +205,7 @@ fn unescape(text: &[u8], at: usize, buffer: &mut Vec<u8>) -> Result<usize, Miss>
 }
 
 /// The string that stands here, or after spaces: in the buffer where something in it is escaped, else in the text.
-pub fn read_text<'t>(
-    text: &'t str,
-    at: usize,
-    buffer: &'t mut Vec<u8>,
-) -> Result<Placed<&'t str>, Miss>
+pub fn read_text<'t>(text: &'t str, at: usize, buffer: &'t mut Vec<u8>) -> ScanResult<&'t str>
     requires { at ≤ length text.now }
     ensures lexeme { IfOk result (λ r. IsString (drop at text.now) r.value.now (drop r.end text.now)) }
     ensures reads { IfOk result (λ r. Spells (drop at text.now) (string r.value.now) (drop r.end text.now)) }
@@ -233,11 +229,7 @@ pub fn read_text<'t>(
 
 /// The key that stands here, or after spaces, with its colon: in the buffer where something in it is escaped, else in the text.
 #[inline(always)]
-pub fn read_key<'t>(
-    text: &'t str,
-    at: usize,
-    buffer: &'t mut Vec<u8>,
-) -> Result<Placed<&'t str>, Miss>
+pub fn read_key<'t>(text: &'t str, at: usize, buffer: &'t mut Vec<u8>) -> ScanResult<&'t str>
     requires { at ≤ length text.now }
     ensures reads { IfOk result (λ r. IsKey (drop at text.now) r.value.now (drop r.end text.now)) }
     ensures onward { IfOk result (λ r. at < r.end) }

@@ -1,14 +1,13 @@
 //! Values of any shape, read as trees. (RFC 8259, sections 3 to 7)
 
 ghost use Rattle.std.specs.Prelude.{◌≡◌, ◌<◌, ◌≤◌, length, drop, get_or, IfOk};
-ghost use Rattle.serde_json.specs.Data.{no_members};
-ghost use Rattle.serde_json.specs.View.{view, items_view, members_view};
+ghost use Rattle.serde_json.specs.View.{view};
 ghost use Rattle.json_scan.specs.Scalars.{literal_data};
-ghost use Rattle.json_scan.specs.Spelling.{Spells, SpellsAt, SpellsItems, SpellsMembers};
+ghost use Rattle.json_scan.specs.Spelling.{Spells, SpellsAt};
 
 use crate::literal::{Literal, read_literal};
-use crate::mark::{Container, Mark, empty_end, read_mark};
-use crate::miss::{Miss, push};
+use crate::mark::{Container, Mark, empty_end, next_mark};
+use crate::miss::{Miss, ScanResult, push};
 use crate::number::{number_word, read_integer};
 use crate::space::{Placed, after_space};
 use crate::text::{read_key, read_text};
@@ -26,7 +25,7 @@ fn literal_value(literal: Literal) -> Value
 }
 
 /// The number that stands here, or after spaces. Most are whole, and these want no memory.
-fn read_number_value(alloc: Global, text: &[u8], at: usize) -> Result<Placed<Value>, Miss>
+fn read_number_value(alloc: Global, text: &[u8], at: usize) -> ScanResult<Value>
     requires { at ≤ length text.now }
     ensures ok { IfOk result (λ r. Spells (drop at text.now) (view r.value) (drop r.end text.now)) }
     ensures onward { IfOk result (λ r. at < r.end) }
@@ -57,7 +56,7 @@ fn read_number_value(alloc: Global, text: &[u8], at: usize) -> Result<Placed<Val
 }
 
 /// The literal or the number that stands here, or after spaces.
-fn read_word_value(alloc: Global, text: &[u8], at: usize) -> Result<Placed<Value>, Miss>
+fn read_word_value(alloc: Global, text: &[u8], at: usize) -> ScanResult<Value>
     requires { at ≤ length text.now }
     ensures ok { IfOk result (λ r. Spells (drop at text.now) (view r.value) (drop r.end text.now)) }
     ensures onward { IfOk result (λ r. at < r.end) }
@@ -73,7 +72,7 @@ fn read_word_value(alloc: Global, text: &[u8], at: usize) -> Result<Placed<Value
 }
 
 /// The string that stands here, or after spaces.
-fn read_text_value(alloc: Global, text: &str, at: usize) -> Result<Placed<Value>, Miss>
+fn read_text_value(alloc: Global, text: &str, at: usize) -> ScanResult<Value>
     requires { at ≤ length text.now }
     ensures ok { IfOk result (λ r. Spells (drop at text.now) (view r.value) (drop r.end text.now)) }
     ensures onward { IfOk result (λ r. at < r.end) }
@@ -92,7 +91,7 @@ fn read_text_value(alloc: Global, text: &str, at: usize) -> Result<Placed<Value>
 
 /// The value that stands here, or after spaces, as a tree. Arrays and objects in it are nested as deep as `depth` at most.
 #[cycle(trees)]
-pub fn read_value(alloc: Global, text: &str, at: usize, depth: usize) -> Result<Placed<Value>, Miss>
+pub fn read_value(alloc: Global, text: &str, at: usize, depth: usize) -> ScanResult<Value>
     requires { at ≤ length text.now }
     ensures ok { IfOk result (λ r. SpellsAt depth (drop at text.now) (view r.value) (drop r.end text.now)) }
     ensures onward { IfOk result (λ r. at < r.end) }
@@ -110,12 +109,7 @@ pub fn read_value(alloc: Global, text: &str, at: usize, depth: usize) -> Result<
 
 /// The array of which the opening bracket stands here.
 #[cycle(trees)]
-fn read_array_value(
-    alloc: Global,
-    text: &str,
-    at: usize,
-    depth: usize,
-) -> Result<Placed<Value>, Miss>
+fn read_array_value(alloc: Global, text: &str, at: usize, depth: usize) -> ScanResult<Value>
     requires bracket { (at < length text.now) × (get_or text.now at 0 ≡ 91) }
     ensures ok { IfOk result (λ r. SpellsAt depth (drop at text.now) (view r.value) (drop r.end text.now)) }
     ensures onward { IfOk result (λ r. at < r.end) }
@@ -130,53 +124,25 @@ fn read_array_value(
             end,
         });
     }
-    let items = read_item_values(alloc, text, at + 1, depth - 1)?;
-    Ok(Placed {
-        value: Value::Array(items.value),
-        end: items.end,
-    })
-}
-
-/// The items that begin here. The place is the one behind the bracket that closes their array.
-#[cycle(trees)]
-fn read_item_values(
-    alloc: Global,
-    text: &str,
-    start: usize,
-    depth: usize,
-) -> Result<Placed<Vec<Value>>, Miss>
-    requires { start ≤ length text.now }
-    ensures ok { IfOk result (λ r. SpellsItems depth (drop start text.now) (items_view r.value.items) (drop r.end text.now)) }
-    ensures onward { IfOk result (λ r. start < r.end) }
-    ensures within { IfOk result (λ r. r.end ≤ length text.now) }
-{
     let mut values = Vec::new(alloc);
-    let mut at = start;
+    let mut next = at + 1;
     'items: loop {
-        let item = read_value(alloc, text, at, depth)?;
+        let item = read_value(alloc, text, next, depth - 1)?;
         push(&mut values, item.value)?;
-        let Some(mark) = read_mark(text.as_bytes(), item.end, Container::Array) else {
-            return Err(Miss::Unread);
-        };
-        at = mark.end;
+        let mark = next_mark(text, item.end, Container::Array)?;
         match mark.value {
             Mark::End => return Ok(Placed {
-                value: values,
-                end: at,
+                value: Value::Array(values),
+                end: mark.end,
             }),
-            Mark::Comma => {}
+            Mark::Comma => next = mark.end,
         }
     }
 }
 
-/// The object of which the opening brace stands here.
+/// The object of which the opening brace stands here; of two members of one name it has the second.
 #[cycle(trees)]
-fn read_object_value(
-    alloc: Global,
-    text: &str,
-    at: usize,
-    depth: usize,
-) -> Result<Placed<Value>, Miss>
+fn read_object_value(alloc: Global, text: &str, at: usize, depth: usize) -> ScanResult<Value>
     requires brace { (at < length text.now) × (get_or text.now at 0 ≡ 123) }
     ensures ok { IfOk result (λ r. SpellsAt depth (drop at text.now) (view r.value) (drop r.end text.now)) }
     ensures onward { IfOk result (λ r. at < r.end) }
@@ -191,45 +157,22 @@ fn read_object_value(
             end,
         });
     }
-    let members = read_member_values(alloc, text, at + 1, depth - 1)?;
-    Ok(Placed {
-        value: Value::Object(members.value),
-        end: members.end,
-    })
-}
-
-/// The members that begin here, of two of one name the second. The place is the one behind the brace that closes their object.
-#[cycle(trees)]
-fn read_member_values(
-    alloc: Global,
-    text: &str,
-    start: usize,
-    depth: usize,
-) -> Result<Placed<Map<String, Value>>, Miss>
-    requires { start ≤ length text.now }
-    ensures ok { IfOk result (λ r. SpellsMembers depth (drop start text.now) no_members (members_view r.value.entries) (drop r.end text.now)) }
-    ensures onward { IfOk result (λ r. start < r.end) }
-    ensures within { IfOk result (λ r. r.end ≤ length text.now) }
-{
     let mut values = Map::new(alloc);
     let mut buffer = Vec::new(alloc);
-    let mut at = start;
+    let mut next = at + 1;
     'members: loop {
-        let key = read_key(text, at, &mut buffer)?;
-        let member = read_value(alloc, text, key.end, depth)?;
+        let key = read_key(text, next, &mut buffer)?;
+        let member = read_value(alloc, text, key.end, depth - 1)?;
         let Ok(()) = put(&mut values, alloc, key.value, member.value) else {
             return Err(Miss::NoMemory);
         };
-        let Some(mark) = read_mark(text.as_bytes(), member.end, Container::Object) else {
-            return Err(Miss::Unread);
-        };
-        at = mark.end;
+        let mark = next_mark(text, member.end, Container::Object)?;
         match mark.value {
             Mark::End => return Ok(Placed {
-                value: values,
-                end: at,
+                value: Value::Object(values),
+                end: mark.end,
             }),
-            Mark::Comma => {}
+            Mark::Comma => next = mark.end,
         }
     }
 }

@@ -1,8 +1,8 @@
 //! Values of any shape, passed over. (RFC 8259, sections 3 to 5)
 
 ghost use Rattle.std.specs.Prelude.{◌≡◌, ◌-◌, ◌+◌, ◌<◌, ◌≤◌, ℕ, List, length, drop, get_or, IfOk, IfSome};
-ghost use Rattle.serde_json.specs.Data.{Data, Items, Members, no_members};
-ghost use Rattle.json_scan.specs.Spelling.{IsKey, Spells, SpellsAt, SpellsItems, SpellsMembers};
+ghost use Rattle.serde_json.specs.Data.{Data};
+ghost use Rattle.json_scan.specs.Spelling.{IsKey, Spells, SpellsAt};
 
 use crate::literal::read_literal;
 use crate::mark::{Container, Mark, empty_end, read_mark};
@@ -82,28 +82,16 @@ fn pass_array(text: &[u8], at: usize, depth: usize) -> Option<usize>
     if depth == 0 {
         return None;
     }
-    match empty_end(text, at + 1, Container::Array) {
-        Some(end) => Some(end),
-        None => pass_items(text, at + 1, depth - 1),
+    if let Some(end) = empty_end(text, at + 1, Container::Array) {
+        return Some(end);
     }
-}
-
-/// The place behind the items that begin here and the bracket that closes their array.
-#[cycle(values)]
-fn pass_items(text: &[u8], start: usize, depth: usize) -> Option<usize>
-    requires { start ≤ length text.now }
-    ensures reads { IfSome result (λ end. (ds : Items) × SpellsItems depth (drop start text.now) ds (drop end text.now)) }
-    ensures onward { IfSome result (λ end. start < end) }
-    ensures within { IfSome result (λ end. end ≤ length text.now) }
-{
-    let mut at = start;
+    let mut next = at + 1;
     'items: loop {
-        let end = pass_value(text, at, depth)?;
+        let end = pass_value(text, next, depth - 1)?;
         let mark = read_mark(text, end, Container::Array)?;
-        at = mark.end;
         match mark.value {
-            Mark::End => return Some(at),
-            Mark::Comma => {}
+            Mark::End => return Some(mark.end),
+            Mark::Comma => next = mark.end,
         }
     }
 }
@@ -119,29 +107,17 @@ fn pass_object(text: &[u8], at: usize, depth: usize) -> Option<usize>
     if depth == 0 {
         return None;
     }
-    match empty_end(text, at + 1, Container::Object) {
-        Some(end) => Some(end),
-        None => pass_members(text, at + 1, depth - 1),
+    if let Some(end) = empty_end(text, at + 1, Container::Object) {
+        return Some(end);
     }
-}
-
-/// The place behind the members that begin here and the brace that closes their object.
-#[cycle(values)]
-fn pass_members(text: &[u8], start: usize, depth: usize) -> Option<usize>
-    requires { start ≤ length text.now }
-    ensures reads { IfSome result (λ end. (ms : Members) × SpellsMembers depth (drop start text.now) no_members ms (drop end text.now)) }
-    ensures onward { IfSome result (λ end. start < end) }
-    ensures within { IfSome result (λ end. end ≤ length text.now) }
-{
-    let mut at = start;
+    let mut next = at + 1;
     'members: loop {
-        let value = pass_key(text, at)?;
-        let end = pass_value(text, value, depth)?;
+        let value = pass_key(text, next)?;
+        let end = pass_value(text, value, depth - 1)?;
         let mark = read_mark(text, end, Container::Object)?;
-        at = mark.end;
         match mark.value {
-            Mark::End => return Some(at),
-            Mark::Comma => {}
+            Mark::End => return Some(mark.end),
+            Mark::Comma => next = mark.end,
         }
     }
 }

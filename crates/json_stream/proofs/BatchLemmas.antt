@@ -60,3 +60,9 @@ column_taken fs cs ds columns n f b d s h many at_field is_field at_coding is_co
     let coding : slice_get (map (option_map coding_of) cs) (length ds) ≡ Some (option_map coding_of b) = ap (slice_get (map (option_map coding_of) cs)) here ∙ coding_at cs n b at_coding is_coding in
     columns_more (fields_of fs) (map (option_map coding_of) cs) ds columns (field_of f) (option_map coding_of b) d s h field coding
     (subst (λ k. HoldsTop k (option_map coding_of b) (length s.items) d s) (sym (kind_of_field-field_of f)) column)
+
+-- the only column is that of the only value
+pub column_alone : (f : FieldShape) (b : Option Coding) (ds : List Data) (s : Seen) → AreReadColumns (f ∷ []) (b ∷ []) ds (s ∷ []) → (d : Data) × (ds ≡ d ∷ []) × HoldsTop (kind_of_field f) b (length s.items) d s
+column_alone f b [] s h = absurd (omega (arith, h.len))
+column_alone f b (d ∷ []) s h = (d, refl, h.each 0 f b d s refl refl refl refl)
+column_alone f b (d ∷ e ∷ ds) s h = absurd (omega (arith, h.len))

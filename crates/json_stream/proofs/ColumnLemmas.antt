@@ -1,11 +1,10 @@
 -- The members of a column one after another, and the column that they make.
-use Rattle.std.proofs.Common.{◌≡◌, ◌≢◌, ◌∙◌, ℕ, ◌^◌, ◌<◌, nat_lt, cond, List, length, get_or, Bool, true, false, Option, Some, None, option_and_then, drop, refl, sym, ap, subst, arith}
+use Rattle.std.proofs.Common.{◌≡◌, ◌≢◌, ◌∙◌, ℕ, ◌^◌, ◌<◌, nat_lt, cond, List, length, get_or, Bool, true, Option, Some, None, option_and_then, drop, refl, sym, ap, subst, arith}
 use Rattle.std.specs.Prelude.{IfSome}
 use Rattle.std.proofs.lemmas.Bool.Decides.{nat_tests}
 use Rattle.arrays.specs.Item.{Item}
 use Rattle.arrays.specs.Kind.{Kind, int, boolean, texts, lists, dict}
 use Rattle.arrays.specs.Seen.{Seen}
-use Rattle.json_scan.specs.Lex.{lex, between, begins_colon}
 use Rattle.json_read.specs.Data.{Num, Data, number, object, array, Items, no_items, Members, put}
 use Rattle.json_read.specs.Find.{get_member, as_array, as_u64}
 use Rattle.json_read.proofs.Views.{get_member-put, get_member-put_other}
@@ -84,14 +83,14 @@ module _ (k : Kind) (c : Option Coding) (depth : ℕ) (text name : List ℕ) (d 
     values = tt;
   }
 
-  pub data_taken : (s : Stretch) (values : Option Seen) → name ≡ member_name member.Data → SpellsAt depth (drop s.start text) d (drop s.end text) → begins_colon (lex between (drop s.end text)) ≡ false
+  pub data_taken : (s : Stretch) (values : Option Seen) → name ≡ member_name member.Data → StandsOn depth text (Some d) (Some s)
       → IsValues k c p.validity (Some d) values → HoldsParts k c depth text (put name d ms) (record p { place = Some s; values = values })
-  data_taken s values e spelled apart is =
+  data_taken s values e stands is =
       let found = here member.Data name d ms e in
       record {
         count = same_count (λ f. count_apart_data (sym f ∙ e));
         validity = same_validity (λ f. validity_apart_data (sym f ∙ e));
-        place = (d, found, spelled, apart);
+        place = subst (λ o. StandsOn depth text o (Some s)) (sym found) stands;
         values = subst (λ o. IsValues k c p.validity o values) (sym found) is;
       }
 

@@ -156,11 +156,11 @@ module _ (w : OffsetWidth) (k : Kind) (depth : ℕ) (text name : List ℕ) (d : 
     child = same_child (no_member member.Validity member.Children name e validity_apart_children);
   }
 
-  pub offsets_taken : (offsets : Offsets) → name ≡ member_name member.Offset → IsOffsets w (Some d) (Some offsets) → HoldsLists w k depth text (put name d ms) (record p { offsets = Some offsets })
-  offsets_taken offsets e is = record {
+  pub offsets_taken : (offsets : Offsets) (v : OffsetWidth) → v ≡ w → name ≡ member_name member.Offset → IsOffsets v (Some d) (Some offsets) → HoldsLists w k depth text (put name d ms) (record p { offsets = Some offsets })
+  offsets_taken offsets v one e is = record {
     count = same_count (λ f. count_apart_offset (sym f ∙ e));
     validity = same_validity (λ f. validity_apart_offset (sym f ∙ e));
-    offsets = subst (λ o. IsOffsets w o (Some offsets)) (sym (here member.Offset name d ms e)) is;
+    offsets = subst (λ o. IsOffsets w o (Some offsets)) (sym (here member.Offset name d ms e)) (subst (λ x. IsOffsets x (Some d) (Some offsets)) one is);
     child = same_child (no_member member.Offset member.Children name e offset_apart_children);
   }
 

@@ -6,7 +6,8 @@ use Rattle.json_scan.specs.Json as json
 use Rattle.json_scan.specs.Lex.{lex, between, after_value, fresh, begins_colon}
 use Rattle.json_read.specs.Data.{Num, unsigned, negative, float, number, array, object, Items, Members, no_members}
 use Rattle.json_read.specs.Find.{as_integer, as_u64}
-use Rattle.json_read.specs.Read.{number_of, number_from, of_json, of_items, of_members}
+use Rattle.json_read.specs.Read.{number_from, of_json, of_items, of_members}
+use Rattle.serde_json.specs.Read.{number_of}
 use Rattle.json_scan.specs.Spelling.{tokens_in, Spells}
 use Rattle.json_scan.proofs.Values.{unconverted}
 

@@ -23,7 +23,8 @@ use Rattle.json_read.proofs.JsonSchemas.{position-none}
 use Rattle.json_scan.specs.Spelling.{before}
 use Rattle.json_stream.specs.Column.{IsCountMember}
 use Rattle.json_stream.specs.Columns.{AreReadColumns}
-use Rattle.json_stream.specs.Batch.{IsColumns, HoldsBatch}
+use Rattle.json_stream.specs.Batch.{IsColumns, HoldsBatch, HasMembers}
+use Rattle.json_stream.specs.declared.batch.BatchMembers.{BatchMembers}
 use Rattle.json_stream.specs.declared.batch.BatchParts.{BatchParts}
 use Rattle.json_stream.proofs.SlotLemmas.{items_len-before, get_item-before}
 use Rattle.json_stream.proofs.ColumnLemmas.{here, there, no_member}
@@ -95,18 +96,22 @@ columns_read fields catalog ds columns rows h len even = record {
       subst (λ xs. ReadsTop (kind_of_field f) c rows d xs) s.2 read;
 }
 
-pub batch_read : (fields gs : List FieldShape) (catalog : List (Option Coding)) (ms : Members) (p : BatchParts) (rows : ℕ) (v : Vec Seen Global) (b : Batch) → gs ≡ fields → HoldsBatch gs catalog ms p → p.count ≡ Some rows → p.columns ≡ Some v
-    → b.rows ≡ rows → b.columns ≡ v.items → length b.columns ≡ length fields → All (λ (s : Seen). length s.items ≡ rows) b.columns → ReadsBatch fields catalog (object ms) (table_of b)
-batch_read fields gs catalog ms p rows v b same h count is at_rows at_columns len even =
-    let held = subst (λ fs. HoldsBatch fs catalog ms p) same h in
-    let counted = subst (IsCountMember (get_member (member_name member.Count) ms)) count held.count in
-    let columns = subst (λ o. IsColumns fields catalog (get_member (member_name member.Columns) ms) (option_map (λ w. w.items) o)) is held.columns in
-    let ds = columns.0 in
-    let are : AreReadColumns fields catalog ds b.columns = subst (AreReadColumns fields catalog ds) (sym at_columns) columns.2 in
+pub members_known : (fields : List FieldShape) (catalog : List (Option Coding)) (ms : Members) (p : BatchParts) (rows : ℕ) (v : Vec Seen Global) → HoldsBatch fields catalog ms p → p.count ≡ Some rows → p.columns ≡ Some v
+    → HasMembers fields catalog ms (record { count = rows; columns = v })
+members_known fields catalog ms p rows v h count is =
+    let columns = subst (λ o. IsColumns fields catalog (get_member (member_name member.Columns) ms) (option_map (λ w. w.items) o)) is h.columns in
+    record { count = subst (IsCountMember (get_member (member_name member.Count) ms)) count h.count; values = columns.0; listed = columns.1; read = columns.2 }
+
+pub batch_read : (fields gs : List FieldShape) (catalog : List (Option Coding)) (ms : Members) (m : BatchMembers) (b : Batch) → gs ≡ fields → HasMembers gs catalog ms m
+    → b.rows ≡ m.count → b.columns ≡ m.columns.items → length b.columns ≡ length fields → All (λ (s : Seen). length s.items ≡ m.count) b.columns → ReadsBatch fields catalog (object ms) (table_of b)
+batch_read fields gs catalog ms m b same h at_rows at_columns len even =
+    let held = subst (λ fs. HasMembers fs catalog ms m) same h in
+    let ds = held.values in
+    let are : AreReadColumns fields catalog ds b.columns = subst (AreReadColumns fields catalog ds) (sym at_columns) held.read in
     record {
-      count = counted ∙ ap Some (sym at_rows);
+      count = held.count ∙ ap Some (sym at_rows);
       found = before ds no_items;
-      listed = ap (option_and_then as_array) columns.1;
+      listed = ap (option_and_then as_array) held.listed;
       whole = items_len-before ds ∙ (sym are.len ∙ len);
-      columns = subst (λ n. ReadsColumns fields catalog n (before ds no_items) (length fields) (map (λ (s : Seen). s.items) b.columns)) (sym at_rows) (columns_read fields catalog ds b.columns rows are len even);
+      columns = subst (λ n. ReadsColumns fields catalog n (before ds no_items) (length fields) (map (λ (s : Seen). s.items) b.columns)) (sym at_rows) (columns_read fields catalog ds b.columns m.count are len even);
     }

@@ -1,4 +1,5 @@
 -- The words of this crate's contracts.
+pub mod Cursor
 pub mod Validity
 pub mod Field
 pub mod Slots

@@ -3,23 +3,34 @@
 ghost use Rattle.std.specs.Prelude.{◌≡◌, ◌<◌, ◌≤◌, List, length, drop, map, Option, option_map, IfOk, IsTrue};
 ghost use Rattle.std.specs.Arc.{arc_value};
 ghost use Rattle.std.specs.List.{All};
-ghost use Rattle.json_read.specs.Data.{Data};
+ghost use Rattle.arrays.specs.Shape.{fields_of};
+ghost use Rattle.json_read.specs.Data.{Data, Members, object};
 ghost use Rattle.json_read.specs.JsonTable.{table_of};
 ghost use Rattle.json_read.specs.CatalogParts.{coding_of};
 ghost use Rattle.json_read.specs.JsonBatch.{ReadsBatch};
 ghost use Rattle.json_read.specs.JsonCatalog as coded;
 ghost use Rattle.json_scan.specs.Spelling.{SpellsAt};
+ghost use Rattle.json_stream.specs.Batch.{HasMembers};
 ghost use Rattle.json_stream.specs.Columns.{AreReadColumns};
+ghost use Rattle.json_stream.specs.Cursor.{HasAt, IsBehind};
 
 use crate::columns::read_columns;
-use crate::natural::read_natural;
+use crate::cursor::Cursor;
+use crate::natural::read_count;
 use arrays::{Array, Field, MOST_SLOTS, RecordBatch, Schema};
 use json_read::{Coding, Member};
-use json_scan::{MemberVisitor, Miss, Placed, pass_over, read_object};
+use json_scan::{MemberVisitor, Miss, Placed, ScanResult, pass_over, read_object};
 use std::alloc::Global;
 use std::sync::Arc;
 
-/// What has been read of a batch object.
+/// The members of a batch object.
+#[derive(Drop)]
+pub struct BatchMembers {
+    pub count: u32,
+    pub columns: Vec<Array>,
+}
+
+/// What has been read of them.
 #[derive(Drop)]
 pub(crate) struct BatchParts<'f> {
     alloc: Global,
@@ -40,9 +51,7 @@ impl MemberVisitor for BatchParts<'_> {
 
     fn visit(&mut self, text: &str, name: &str, at: usize, depth: usize) -> Result<usize, Miss> {
         if name == Member::Count.name() {
-            let Some(count) = read_natural(text.as_bytes(), at) else {
-                return Err(Miss::Unread);
-            };
+            let count = read_count(Cursor { text, at, depth })?;
             self.count = Some(count.value);
             return Ok(count.end);
         }
@@ -53,6 +62,39 @@ impl MemberVisitor for BatchParts<'_> {
         }
         pass_over(text, at, depth)
     }
+}
+
+/// The members of the batch that stands at the cursor, or after spaces: columns of the first fields, by the catalog's coding of each. There may be
+/// fewer than fields, and each may be of another length.
+pub fn read_batch_members(
+    alloc: Global,
+    fields: &[Field],
+    catalog: &[Option<Coding>],
+    cursor: Cursor,
+) -> ScanResult<BatchMembers>
+    ensures ok { IfOk result (λ r. (ms : Members) × HasAt cursor.entry (object ms) r.end
+        × HasMembers (fields_of fields.now) (map (option_map coding_of) catalog.now) ms r.value) }
+    ensures onward { IfOk result (λ r. IsBehind cursor.entry r.end) }
+{
+    let mut parts = BatchParts {
+        alloc,
+        fields,
+        catalog,
+        count: None,
+        columns: None,
+    };
+    let end = read_object(alloc, cursor.text, cursor.at, cursor.depth, &mut parts)?;
+    let BatchParts { count, columns, .. } = parts;
+    let Some(count) = count else {
+        return Err(Miss::Unread);
+    };
+    let Some(columns) = columns else {
+        return Err(Miss::Unread);
+    };
+    Ok(Placed {
+        value: BatchMembers { count, columns },
+        end,
+    })
 }
 
 /// Whether each column has so many slots.
@@ -96,7 +138,7 @@ pub fn read_batch(
     text: &str,
     at: usize,
     depth: usize,
-) -> Result<Placed<RecordBatch>, Miss>
+) -> ScanResult<RecordBatch>
     requires { at ≤ length text.now }
     ensures fields { IfOk result (λ r. r.value.fields ≡ arc_value schema.now) }
     ensures ok { IfOk result (λ r. (d : Data) × SpellsAt depth (drop at text.now) d (drop r.end text.now)
@@ -104,21 +146,12 @@ pub fn read_batch(
     ensures onward { IfOk result (λ r. at < r.end) }
     ensures within { IfOk result (λ r. r.end ≤ length text.now) }
 {
-    let mut parts = BatchParts {
-        alloc,
-        fields: schema.fields(),
-        catalog,
-        count: None,
-        columns: None,
-    };
-    let end = read_object(alloc, text, at, depth, &mut parts)?;
-    let BatchParts { count, columns, .. } = parts;
-    let Some(rows) = count else {
-        return Err(Miss::Unread);
-    };
-    let Some(columns) = columns else {
-        return Err(Miss::Unread);
-    };
-    let value = batch_of(schema, rows, columns)?;
-    Ok(Placed { value, end })
+    let cursor = Cursor { text, at, depth };
+    let read = read_batch_members(alloc, schema.fields(), catalog, cursor)?;
+    let BatchMembers { count, columns } = read.value;
+    let value = batch_of(schema, count, columns)?;
+    Ok(Placed {
+        value,
+        end: read.end,
+    })
 }

@@ -8,16 +8,20 @@ ghost use Rattle.json_read.specs.CatalogParts.{coding_of};
 ghost use Rattle.json_read.specs.JsonBatch.{HoldsColumn, HoldsTop};
 ghost use Rattle.json_scan.specs.Spelling.{SpellsAt};
 ghost use Rattle.json_stream.specs.Column.{HoldsParts, IsValues, StandsOn};
+ghost use Rattle.json_stream.specs.Cursor.{HasAt, HasValue, IsBehind};
 ghost use Rattle.json_stream.specs.Field.{coding_in, kind_in};
 
+use crate::cursor::Cursor;
 use crate::field::EncodedField;
 use crate::list::read_list;
-use crate::natural::read_natural;
+use crate::natural::read_count;
 use crate::validity::read_validity;
 use crate::values::read_values;
 use arrays::{Array, BitmapBuf, DataType, Field, OffsetWidth};
 use json_read::{Coding, Member};
-use json_scan::{Container, MemberVisitor, Miss, Placed, ends_in, pass_over, read_object};
+use json_scan::{
+    Container, MemberVisitor, Miss, Placed, ScanResult, ends_in, pass_over, read_object,
+};
 use std::alloc::Global;
 
 /// Where a value stands.
@@ -25,6 +29,22 @@ use std::alloc::Global;
 pub struct Stretch {
     pub start: usize,
     pub end: usize,
+}
+
+/// Where the value of a member stands, which begins at the cursor and ends there. It is no key: no colon follows.
+pub fn member_stretch(cursor: Cursor, end: usize) -> Result<Stretch, Miss>
+    requires { end ≤ length cursor.text.now }
+    ensures end { IfOk result (λ s. s.end ≡ end) }
+    ensures stands { IfOk result (λ s. (d : Data) → HasAt cursor.entry d end → StandsOn cursor.entry.depth cursor.entry.text.now (Some d) (Some s)) }
+{
+    if ends_in(cursor.text, end, Container::Object) {
+        Ok(Stretch {
+            start: cursor.at,
+            end,
+        })
+    } else {
+        Err(Miss::Unread)
+    }
 }
 
 /// What has been read of a column object.
@@ -46,24 +66,19 @@ fn read_or_pass(
     alloc: Global,
     field: EncodedField,
     validity: &Option<BitmapBuf>,
-    text: &str,
-    at: usize,
-    depth: usize,
-) -> Result<Placed<Option<Array>>, Miss>
-    requires { at ≤ length text.now }
-    ensures ok { IfOk result (λ r. (d : Data) × SpellsAt depth (drop at text.now) d (drop r.end text.now)
-        × IsValues (kind_in field.entry) (coding_in field.entry) validity.now (Some d) r.value) }
-    ensures onward { IfOk result (λ r. at < r.end) }
-    ensures within { IfOk result (λ r. r.end ≤ length text.now) }
+    cursor: Cursor,
+) -> ScanResult<Option<Array>>
+    ensures ok { IfOk result (λ r. HasValue cursor.entry r.end (λ d. IsValues (kind_in field.entry) (coding_in field.entry) validity.now (Some d) r.value)) }
+    ensures onward { IfOk result (λ r. IsBehind cursor.entry r.end) }
 {
     if validity.is_some() {
-        let values = read_values(alloc, field, validity, text, at, depth)?;
+        let values = read_values(alloc, field, validity, cursor)?;
         return Ok(Placed {
             value: Some(values.value),
             end: values.end,
         });
     }
-    let end = pass_over(text, at, depth)?;
+    let end = pass_over(cursor.text, cursor.at, cursor.depth)?;
     Ok(Placed { value: None, end })
 }
 
@@ -76,28 +91,22 @@ impl MemberVisitor for ColumnParts<'_> {
         × HoldsParts (kind_in first.field) (coding_in first.field) depth text ms now };
 
     fn visit(&mut self, text: &str, name: &str, at: usize, depth: usize) -> Result<usize, Miss> {
+        let cursor = Cursor { text, at, depth };
         if name == Member::Count.name() {
-            let Some(count) = read_natural(text.as_bytes(), at) else {
-                return Err(Miss::Unread);
-            };
+            let count = read_count(cursor)?;
             self.count = Some(count.value);
             return Ok(count.end);
         }
         if name == Member::Validity.name() {
-            let validity = read_validity(self.alloc, text, at, depth)?;
+            let validity = read_validity(self.alloc, cursor)?;
             self.validity = validity.value;
             self.values = None;
             return Ok(validity.end);
         }
         if name == Member::Data.name() {
-            let data = read_or_pass(self.alloc, self.field, &self.validity, text, at, depth)?;
-            if !ends_in(text, data.end, Container::Object) {
-                return Err(Miss::Unread);
-            }
-            self.place = Some(Stretch {
-                start: at,
-                end: data.end,
-            });
+            let data = read_or_pass(self.alloc, self.field, &self.validity, cursor)?;
+            let place = member_stretch(cursor, data.end)?;
+            self.place = Some(place);
             self.values = data.value;
             return Ok(data.end);
         }
@@ -120,10 +129,11 @@ fn values_at(
     let Some(place) = place else {
         return Err(Miss::Unread);
     };
-    if place.start > text.len() {
+    let at = place.start;
+    if at > text.len() {
         return Err(Miss::Unread);
     }
-    match read_values(alloc, field, validity, text, place.start, depth) {
+    match read_values(alloc, field, validity, Cursor { text, at, depth }) {
         Ok(values) if values.end == place.end => Ok(values.value),
         Ok(_) => Err(Miss::Unread),
         Err(miss) => Err(miss),
@@ -182,15 +192,10 @@ fn read_slotted(
     alloc: Global,
     field: &Field,
     coding: &Option<Coding>,
-    text: &str,
-    at: usize,
-    depth: usize,
-) -> Result<Placed<Array>, Miss>
-    requires { at ≤ length text.now }
-    ensures ok { IfOk result (λ r. (d : Data) × SpellsAt depth (drop at text.now) d (drop r.end text.now)
-        × HoldsTop (kind_of (out-Field field.now).ty) (option_map coding_of coding.now) (length r.value.items) d r.value) }
-    ensures onward { IfOk result (λ r. at < r.end) }
-    ensures within { IfOk result (λ r. r.end ≤ length text.now) }
+    cursor: Cursor,
+) -> ScanResult<Array>
+    ensures ok { IfOk result (λ r. HasValue cursor.entry r.end (λ d. HoldsTop (kind_of (out-Field field.now).ty) (option_map coding_of coding.now) (length r.value.items) d r.value)) }
+    ensures onward { IfOk result (λ r. IsBehind cursor.entry r.end) }
 {
     let mut parts = ColumnParts {
         alloc,
@@ -200,48 +205,30 @@ fn read_slotted(
         place: None,
         values: None,
     };
-    let end = read_object(alloc, text, at, depth, &mut parts)?;
-    let value = column_of(parts, text, depth.saturating_sub(1))?;
+    let end = read_object(alloc, cursor.text, cursor.at, cursor.depth, &mut parts)?;
+    let value = column_of(parts, cursor.text, cursor.depth.saturating_sub(1))?;
     Ok(Placed { value, end })
 }
 
 /// The same without a coding.
-pub(crate) fn read_plain(
-    alloc: Global,
-    field: &Field,
-    text: &str,
-    at: usize,
-    depth: usize,
-) -> Result<Placed<Array>, Miss>
-    requires { at ≤ length text.now }
-    ensures ok { IfOk result (λ r. (d : Data) × SpellsAt depth (drop at text.now) d (drop r.end text.now)
-        × HoldsColumn (kind_of (out-Field field.now).ty) (length r.value.items) d r.value) }
-    ensures onward { IfOk result (λ r. at < r.end) }
-    ensures within { IfOk result (λ r. r.end ≤ length text.now) }
+pub(crate) fn read_plain(alloc: Global, field: &Field, cursor: Cursor) -> ScanResult<Array>
+    ensures ok { IfOk result (λ r. HasValue cursor.entry r.end (λ d. HoldsColumn (kind_of (out-Field field.now).ty) (length r.value.items) d r.value)) }
+    ensures onward { IfOk result (λ r. IsBehind cursor.entry r.end) }
 {
-    read_slotted(alloc, field, &None, text, at, depth)
+    read_slotted(alloc, field, &None, cursor)
 }
 
 /// The column that stands here, or after spaces, as an array of the field's type. One of a dictionary isn't read.
 #[cycle(columns)]
-pub(crate) fn read_uncoded(
-    alloc: Global,
-    field: &Field,
-    text: &str,
-    at: usize,
-    depth: usize,
-) -> Result<Placed<Array>, Miss>
-    requires { at ≤ length text.now }
-    ensures ok { IfOk result (λ r. (d : Data) × SpellsAt depth (drop at text.now) d (drop r.end text.now)
-        × HoldsColumn (kind_of (out-Field field.now).ty) (length r.value.items) d r.value) }
-    ensures onward { IfOk result (λ r. at < r.end) }
-    ensures within { IfOk result (λ r. r.end ≤ length text.now) }
+pub(crate) fn read_uncoded(alloc: Global, field: &Field, cursor: Cursor) -> ScanResult<Array>
+    ensures ok { IfOk result (λ r. HasValue cursor.entry r.end (λ d. HoldsColumn (kind_of (out-Field field.now).ty) (length r.value.items) d r.value)) }
+    ensures onward { IfOk result (λ r. IsBehind cursor.entry r.end) }
 {
     match &field.ty {
-        DataType::List(item) => read_list(alloc, OffsetWidth::Narrow, item, text, at, depth),
-        DataType::LargeList(item) => read_list(alloc, OffsetWidth::Wide, item, text, at, depth),
+        DataType::List(item) => read_list(alloc, OffsetWidth::Narrow, item, cursor),
+        DataType::LargeList(item) => read_list(alloc, OffsetWidth::Wide, item, cursor),
         DataType::Int(_) | DataType::Bool | DataType::Utf8 | DataType::LargeUtf8 | DataType::Dict =>
-            read_plain(alloc, field, text, at, depth),
+            read_plain(alloc, field, cursor),
     }
 }
 
@@ -254,15 +241,16 @@ pub fn read_column(
     text: &str,
     at: usize,
     depth: usize,
-) -> Result<Placed<Array>, Miss>
+) -> ScanResult<Array>
     requires { at ≤ length text.now }
     ensures ok { IfOk result (λ r. (d : Data) × SpellsAt depth (drop at text.now) d (drop r.end text.now)
         × HoldsTop (kind_of (out-Field field.now).ty) (option_map coding_of coding.now) (length r.value.items) d r.value) }
     ensures onward { IfOk result (λ r. at < r.end) }
     ensures within { IfOk result (λ r. r.end ≤ length text.now) }
 {
+    let cursor = Cursor { text, at, depth };
     if coding.is_some() {
-        return read_slotted(alloc, field, coding, text, at, depth);
+        return read_slotted(alloc, field, coding, cursor);
     }
-    read_uncoded(alloc, field, text, at, depth)
+    read_uncoded(alloc, field, cursor)
 }

@@ -10,7 +10,7 @@ ghost use Rattle.json_stream.specs.Columns.{AreReadColumns};
 use crate::column::read_column;
 use arrays::{Array, Field};
 use json_read::Coding;
-use json_scan::{ItemVisitor, Miss, Placed, push, read_array};
+use json_scan::{ItemVisitor, Miss, Placed, ScanResult, push, read_array};
 use std::alloc::Global;
 
 /// The columns so far, of the first fields.
@@ -53,7 +53,7 @@ pub fn read_columns(
     text: &str,
     at: usize,
     depth: usize,
-) -> Result<Placed<Vec<Array>>, Miss>
+) -> ScanResult<Vec<Array>>
     requires { at ≤ length text.now }
     ensures ok { IfOk result (λ r. (ds : List Data) × SpellsAt depth (drop at text.now) (array (before ds no_items)) (drop r.end text.now)
         × AreReadColumns (fields_of fields.now) (map (option_map coding_of) catalog.now) ds r.value.items) }

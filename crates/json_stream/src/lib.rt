@@ -6,6 +6,7 @@
 mod batch;
 mod column;
 mod columns;
+mod cursor;
 mod field;
 mod list;
 mod natural;
@@ -15,8 +16,9 @@ mod validity;
 mod values;
 mod whole;
 
-pub use batch::read_batch;
-pub use column::{Stretch, read_column};
+pub use batch::{BatchMembers, read_batch, read_batch_members};
+pub use column::{Stretch, member_stretch, read_column};
 pub use columns::read_columns;
-pub use natural::read_natural;
+pub use cursor::Cursor;
+pub use natural::{read_count, read_natural};
 pub use whole::read_whole;

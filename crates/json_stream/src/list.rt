@@ -11,11 +11,12 @@ ghost use Rattle.arrays.specs.Shown.{kept};
 ghost use Rattle.json_read.specs.Data.{Data, Members, object};
 ghost use Rattle.json_read.specs.JsonBatch.{HoldsColumn};
 ghost use Rattle.json_read.specs.JsonList.{are_enough, lists_fault};
-ghost use Rattle.json_scan.specs.Spelling.{SpellsAt};
+ghost use Rattle.json_stream.specs.Cursor.{HasAt, HasValue, IsBehind};
 ghost use Rattle.json_stream.specs.Lists.{HoldsChild, HoldsLists, IsOnStretch, array_of_one};
 
 use crate::column::{Stretch, are_flags_of, read_plain, read_uncoded};
-use crate::natural::read_natural;
+use crate::cursor::Cursor;
+use crate::natural::read_count;
 use crate::offsets::{Offsets, read_offsets};
 use crate::validity::read_validity;
 use arrays::{
@@ -23,8 +24,8 @@ use arrays::{
 };
 use json_read::Member;
 use json_scan::{
-    Container, ItemVisitor, MemberVisitor, Miss, Placed, ends_in, pass_over, read_array,
-    read_object,
+    Container, ItemVisitor, MemberVisitor, Miss, Placed, ScanResult, ends_in, pass_over,
+    read_array, read_object,
 };
 use std::alloc::Global;
 
@@ -37,45 +38,36 @@ pub(crate) enum Child {
 }
 
 /// The place of the child that stands here, or after spaces.
-fn find_child(text: &str, at: usize, depth: usize) -> Result<Placed<Stretch>, Miss>
-    requires { at ≤ length text.now }
-    ensures ok { IfOk result (λ r. (d : Data) × SpellsAt depth (drop at text.now) d (drop r.end text.now)
-        × IsOnStretch depth text.now d r.value) }
-    ensures onward { IfOk result (λ r. at < r.end) }
-    ensures within { IfOk result (λ r. r.end ≤ length text.now) }
+fn find_child(cursor: Cursor) -> ScanResult<Stretch>
+    ensures ok { IfOk result (λ r. HasValue cursor.entry r.end (λ d. IsOnStretch cursor.entry.depth cursor.entry.text.now d r.value)) }
+    ensures onward { IfOk result (λ r. IsBehind cursor.entry r.end) }
 {
-    let end = pass_over(text, at, depth)?;
-    if !ends_in(text, end, Container::Array) {
+    let end = pass_over(cursor.text, cursor.at, cursor.depth)?;
+    if !ends_in(cursor.text, end, Container::Array) {
         return Err(Miss::Unread);
     }
     Ok(Placed {
-        value: Stretch { start: at, end },
+        value: Stretch {
+            start: cursor.at,
+            end,
+        },
         end,
     })
 }
 
 /// The child that stands here, or after spaces: one of lists is passed over.
-fn read_or_find(
-    alloc: Global,
-    item: &Field,
-    text: &str,
-    at: usize,
-    depth: usize,
-) -> Result<Placed<Child>, Miss>
-    requires { at ≤ length text.now }
-    ensures ok { IfOk result (λ r. (d : Data) × SpellsAt depth (drop at text.now) d (drop r.end text.now)
-        × HoldsChild (kind_of (out-Field item.now).ty) depth text.now d r.value) }
-    ensures onward { IfOk result (λ r. at < r.end) }
-    ensures within { IfOk result (λ r. r.end ≤ length text.now) }
+fn read_or_find(alloc: Global, item: &Field, cursor: Cursor) -> ScanResult<Child>
+    ensures ok { IfOk result (λ r. HasValue cursor.entry r.end (λ d. HoldsChild (kind_of (out-Field item.now).ty) cursor.entry.depth cursor.entry.text.now d r.value)) }
+    ensures onward { IfOk result (λ r. IsBehind cursor.entry r.end) }
 {
     if let DataType::List(_) | DataType::LargeList(_) = &item.ty {
-        let found = find_child(text, at, depth)?;
+        let found = find_child(cursor)?;
         return Ok(Placed {
             value: Child::At(found.value),
             end: found.end,
         });
     }
-    let read = read_plain(alloc, item, text, at, depth)?;
+    let read = read_plain(alloc, item, cursor)?;
     Ok(Placed {
         value: Child::Read(read.value),
         end: read.end,
@@ -103,32 +95,24 @@ impl ItemVisitor for Children<'_> {
         if self.child.is_some() {
             return Err(Miss::Unread);
         }
-        let child = read_or_find(self.alloc, self.item, text, at, depth)?;
+        let child = read_or_find(self.alloc, self.item, Cursor { text, at, depth })?;
         self.child = Some(child.value);
         Ok(child.end)
     }
 }
 
 /// The children that stand here, or after spaces: an array of exactly one.
-fn read_children(
-    alloc: Global,
-    item: &Field,
-    text: &str,
-    at: usize,
-    depth: usize,
-) -> Result<Placed<Child>, Miss>
-    requires { at ≤ length text.now }
-    ensures ok { IfOk result (λ r. (d : Data) × SpellsAt depth (drop at text.now) (array_of_one d) (drop r.end text.now)
-        × HoldsChild (kind_of (out-Field item.now).ty) (depth - 1) text.now d r.value) }
-    ensures onward { IfOk result (λ r. at < r.end) }
-    ensures within { IfOk result (λ r. r.end ≤ length text.now) }
+fn read_children(alloc: Global, item: &Field, cursor: Cursor) -> ScanResult<Child>
+    ensures ok { IfOk result (λ r. (d : Data) × HasAt cursor.entry (array_of_one d) r.end
+        × HoldsChild (kind_of (out-Field item.now).ty) (cursor.entry.depth - 1) cursor.entry.text.now d r.value) }
+    ensures onward { IfOk result (λ r. IsBehind cursor.entry r.end) }
 {
     let mut children = Children {
         alloc,
         item,
         child: None,
     };
-    let end = read_array(text, at, depth, &mut children)?;
+    let end = read_array(cursor.text, cursor.at, cursor.depth, &mut children)?;
     let Children { child, .. } = children;
     let Some(value) = child else {
         return Err(Miss::Unread);
@@ -165,25 +149,24 @@ impl MemberVisitor for ListMembers<'_> {
         × HoldsLists first.width (kind_of (out-Field first.item.now).ty) depth text ms now.parts };
 
     fn visit(&mut self, text: &str, name: &str, at: usize, depth: usize) -> Result<usize, Miss> {
+        let cursor = Cursor { text, at, depth };
         if name == Member::Count.name() {
-            let Some(count) = read_natural(text.as_bytes(), at) else {
-                return Err(Miss::Unread);
-            };
+            let count = read_count(cursor)?;
             self.parts.count = Some(count.value);
             return Ok(count.end);
         }
         if name == Member::Validity.name() {
-            let validity = read_validity(self.alloc, text, at, depth)?;
+            let validity = read_validity(self.alloc, cursor)?;
             self.parts.validity = validity.value;
             return Ok(validity.end);
         }
         if name == Member::Offset.name() {
-            let offsets = read_offsets(self.alloc, self.width, text, at, depth)?;
+            let offsets = read_offsets(self.alloc, self.width, cursor)?;
             self.parts.offsets = Some(offsets.value);
             return Ok(offsets.end);
         }
         if name == Member::Children.name() {
-            let child = read_children(self.alloc, self.item, text, at, depth)?;
+            let child = read_children(self.alloc, self.item, cursor)?;
             self.parts.child = Some(child.value);
             return Ok(child.end);
         }
@@ -196,15 +179,11 @@ fn read_parts(
     alloc: Global,
     width: OffsetWidth,
     item: &Field,
-    text: &str,
-    at: usize,
-    depth: usize,
-) -> Result<Placed<ListParts>, Miss>
-    requires { at ≤ length text.now }
-    ensures ok { IfOk result (λ r. (ms : Members) × SpellsAt depth (drop at text.now) (object ms) (drop r.end text.now)
-        × HoldsLists width (kind_of (out-Field item.now).ty) (depth - 1) text.now ms r.value) }
-    ensures onward { IfOk result (λ r. at < r.end) }
-    ensures within { IfOk result (λ r. r.end ≤ length text.now) }
+    cursor: Cursor,
+) -> ScanResult<ListParts>
+    ensures ok { IfOk result (λ r. (ms : Members) × HasAt cursor.entry (object ms) r.end
+        × HoldsLists width (kind_of (out-Field item.now).ty) (cursor.entry.depth - 1) cursor.entry.text.now ms r.value) }
+    ensures onward { IfOk result (λ r. IsBehind cursor.entry r.end) }
 {
     let mut members = ListMembers {
         alloc,
@@ -217,7 +196,7 @@ fn read_parts(
             child: None,
         },
     };
-    let end = read_object(alloc, text, at, depth, &mut members)?;
+    let end = read_object(alloc, cursor.text, cursor.at, cursor.depth, &mut members)?;
     Ok(Placed {
         value: members.parts,
         end,
@@ -309,10 +288,11 @@ fn child_array(
         Child::Read(array) => return Ok(array),
         Child::At(place) => place,
     };
-    if place.start > text.len() {
+    let at = place.start;
+    if at > text.len() {
         return Err(Miss::Unread);
     }
-    match read_uncoded(alloc, item, text, place.start, depth) {
+    match read_uncoded(alloc, item, Cursor { text, at, depth }) {
         Ok(read) if read.end == place.end => Ok(read.value),
         Ok(_) => Err(Miss::Unread),
         Err(miss) => Err(miss),
@@ -325,17 +305,12 @@ pub(crate) fn read_list(
     alloc: Global,
     width: OffsetWidth,
     item: &Field,
-    text: &str,
-    at: usize,
-    depth: usize,
-) -> Result<Placed<Array>, Miss>
-    requires { at ≤ length text.now }
-    ensures ok { IfOk result (λ r. (d : Data) × SpellsAt depth (drop at text.now) d (drop r.end text.now)
-        × HoldsColumn (kind.lists width (kind_of (out-Field item.now).ty)) (length r.value.items) d r.value) }
-    ensures onward { IfOk result (λ r. at < r.end) }
-    ensures within { IfOk result (λ r. r.end ≤ length text.now) }
+    cursor: Cursor,
+) -> ScanResult<Array>
+    ensures ok { IfOk result (λ r. HasValue cursor.entry r.end (λ d. HoldsColumn (kind.lists width (kind_of (out-Field item.now).ty)) (length r.value.items) d r.value)) }
+    ensures onward { IfOk result (λ r. IsBehind cursor.entry r.end) }
 {
-    let read = read_parts(alloc, width, item, text, at, depth)?;
+    let read = read_parts(alloc, width, item, cursor)?;
     let ListParts {
         count,
         validity,
@@ -349,7 +324,13 @@ pub(crate) fn read_list(
         return Err(Miss::Unread);
     };
     let slots = slots_of(width, count, validity, offsets)?;
-    let child = child_array(alloc, item, child, text, depth.saturating_sub(2))?;
+    let child = child_array(
+        alloc,
+        item,
+        child,
+        cursor.text,
+        cursor.depth.saturating_sub(2),
+    )?;
     let value = list_array(alloc, item, slots, child)?;
     Ok(Placed {
         value,

@@ -1,12 +1,14 @@
 //! Numbers from 0 up, and flags.
 
-ghost use Rattle.std.specs.Prelude.{◌≡◌, ◌<◌, ◌≤◌, ◌^◌, length, drop, Some, IfSome};
+ghost use Rattle.std.specs.Prelude.{◌≡◌, ◌<◌, ◌≤◌, ◌^◌, length, drop, Some, IfOk, IfSome};
 ghost use Rattle.json_read.specs.Data.{Num, Data, number};
 ghost use Rattle.json_read.specs.Find.{as_u64};
-ghost use Rattle.json_read.specs.JsonNumber.{flag_number, flag_of};
+ghost use Rattle.json_read.specs.JsonNumber.{count_of, flag_number, flag_of};
 ghost use Rattle.json_scan.specs.Spelling.{Spells};
+ghost use Rattle.json_stream.specs.Cursor.{HasValue, IsBehind};
 
-use json_scan::{Literal, Placed, read_integer, read_literal};
+use crate::cursor::Cursor;
+use json_scan::{Literal, Miss, Placed, ScanResult, read_integer, read_literal};
 
 /// The whole number from 0 up to 2^31 - 1 that stands here, or after spaces.
 #[inline(always)]
@@ -26,6 +28,17 @@ pub fn read_natural(text: &[u8], at: usize) -> Option<Placed<u32>>
         })
     } else {
         None
+    }
+}
+
+/// The same as a count.
+pub fn read_count(cursor: Cursor) -> ScanResult<u32>
+    ensures ok { IfOk result (λ r. HasValue cursor.entry r.end (λ d. count_of d ≡ Some r.value)) }
+    ensures onward { IfOk result (λ r. IsBehind cursor.entry r.end) }
+{
+    match read_natural(cursor.text.as_bytes(), cursor.at) {
+        Some(count) => Ok(count),
+        None => Err(Miss::Unread),
     }
 }
 

@@ -2,13 +2,14 @@
 
 ghost use Rattle.std.specs.Prelude.{◌≡◌, ◌<◌, ◌≤◌, length, drop, IfOk};
 ghost use Rattle.json_read.specs.Data.{Items, array};
-ghost use Rattle.json_scan.specs.Spelling.{SpellsAt};
+ghost use Rattle.json_stream.specs.Cursor.{HasAt, IsBehind};
 ghost use Rattle.json_stream.specs.Offsets.{AreSpelledOffsets};
 
+use crate::cursor::Cursor;
 use crate::whole::read_whole;
 use arrays::{MOST_SLOTS, NoMemory, OffsetWidth};
 use json_read::{offset_type, push_offset};
-use json_scan::{ItemVisitor, Miss, Placed, read_array};
+use json_scan::{ItemVisitor, Miss, Placed, ScanResult, read_array};
 use std::alloc::Global;
 
 /// The offsets that were taken.
@@ -48,25 +49,16 @@ impl ItemVisitor for Offsets {
 }
 
 /// The offsets of this width that stand here, or after spaces: an array of numbers, or of texts in which nothing is escaped.
-pub(crate) fn read_offsets(
-    alloc: Global,
-    width: OffsetWidth,
-    text: &str,
-    at: usize,
-    depth: usize,
-) -> Result<Placed<Offsets>, Miss>
-    requires { at ≤ length text.now }
-    ensures ok { IfOk result (λ r. (offsets : Items) × SpellsAt depth (drop at text.now) (array offsets) (drop r.end text.now)
-        × AreSpelledOffsets width offsets r.value) }
-    ensures onward { IfOk result (λ r. at < r.end) }
-    ensures within { IfOk result (λ r. r.end ≤ length text.now) }
+pub(crate) fn read_offsets(alloc: Global, width: OffsetWidth, cursor: Cursor) -> ScanResult<Offsets>
+    ensures ok { IfOk result (λ r. (offsets : Items) × HasAt cursor.entry (array offsets) r.end × AreSpelledOffsets width offsets r.value) }
+    ensures onward { IfOk result (λ r. IsBehind cursor.entry r.end) }
 {
     let mut offsets = Offsets {
         width,
         bytes: Vec::new(alloc),
         len: 0,
     };
-    let end = read_array(text, at, depth, &mut offsets)?;
+    let end = read_array(cursor.text, cursor.at, cursor.depth, &mut offsets)?;
     Ok(Placed {
         value: offsets,
         end,

@@ -2,12 +2,13 @@
 
 ghost use Rattle.std.specs.Prelude.{◌≡◌, ◌<◌, ◌≤◌, length, drop, Some, IfOk};
 ghost use Rattle.json_read.specs.Data.{Data};
-ghost use Rattle.json_scan.specs.Spelling.{SpellsAt};
+ghost use Rattle.json_stream.specs.Cursor.{HasValue, IsBehind};
 ghost use Rattle.json_stream.specs.Validity.{AreFlags, IsValidity, valid_of};
 
+use crate::cursor::Cursor;
 use crate::natural::read_flag;
 use arrays::{BitmapBuf, BitmapBuilder, MOST_SLOTS, NoMemory};
-use json_scan::{ItemVisitor, Literal, Miss, Placed, read_array, read_literal};
+use json_scan::{ItemVisitor, Literal, Miss, Placed, ScanResult, read_array, read_literal};
 use std::alloc::Global;
 
 /// The flags that were taken.
@@ -35,19 +36,11 @@ impl ItemVisitor for Flags {
 }
 
 /// The validity that stands here, or after spaces: null where all slots are valid, else an array of a flag for each.
-pub(crate) fn read_validity(
-    alloc: Global,
-    text: &str,
-    at: usize,
-    depth: usize,
-) -> Result<Placed<Option<BitmapBuf>>, Miss>
-    requires { at ≤ length text.now }
-    ensures ok { IfOk result (λ r. (d : Data) × SpellsAt depth (drop at text.now) d (drop r.end text.now)
-        × IsValidity (Some d) r.value) }
-    ensures onward { IfOk result (λ r. at < r.end) }
-    ensures within { IfOk result (λ r. r.end ≤ length text.now) }
+pub(crate) fn read_validity(alloc: Global, cursor: Cursor) -> ScanResult<Option<BitmapBuf>>
+    ensures ok { IfOk result (λ r. HasValue cursor.entry r.end (λ d. IsValidity (Some d) r.value)) }
+    ensures onward { IfOk result (λ r. IsBehind cursor.entry r.end) }
 {
-    if let Some(literal) = read_literal(text.as_bytes(), at) {
+    if let Some(literal) = read_literal(cursor.text.as_bytes(), cursor.at) {
         return match literal.value {
             Literal::Null => Ok(Placed {
                 value: None,
@@ -59,7 +52,7 @@ pub(crate) fn read_validity(
     let mut flags = Flags {
         bits: BitmapBuilder::new(alloc),
     };
-    let end = read_array(text, at, depth, &mut flags)?;
+    let end = read_array(cursor.text, cursor.at, cursor.depth, &mut flags)?;
     match flags.bits.finish() {
         Ok(bits) => Ok(Placed {
             value: Some(bits),

@@ -7,10 +7,11 @@ ghost use Rattle.arrays.specs.Kind as kind;
 ghost use Rattle.arrays.specs.Kind.{kind_of};
 ghost use Rattle.json_read.specs.Data.{Data, array, no_items};
 ghost use Rattle.json_read.specs.CatalogParts.{coding_of};
-ghost use Rattle.json_scan.specs.Spelling.{SpellsAt, before};
+ghost use Rattle.json_stream.specs.Cursor.{HasValue, HasValues, IsBehind};
 ghost use Rattle.json_stream.specs.Field.{coding_in, kind_in};
 ghost use Rattle.json_stream.specs.Slots.{IsSlotAdded, HoldsSlots, is_slotted, spelling_at};
 
+use crate::cursor::Cursor;
 use crate::field::EncodedField;
 use crate::slots::{CodeColumn, IntColumn, SlotBuilder, TextColumn};
 use crate::validity::valid_at;
@@ -19,7 +20,7 @@ use arrays::{
     OffsetWidth, TextBuilder,
 };
 use json_read::Coding;
-use json_scan::{ItemVisitor, Miss, Placed, pass_over, read_array};
+use json_scan::{ItemVisitor, Miss, Placed, ScanResult, pass_over, read_array};
 use std::alloc::Global;
 
 /// Adds a slot by the value that stands here, or after spaces, and gives the place behind it. Under a null the value is passed over, whatever it
@@ -28,26 +29,21 @@ use std::alloc::Global;
 fn push_slot<B: SlotBuilder>(
     builder: &mut B,
     valid: Option<bool>,
-    text: &str,
-    at: usize,
-    depth: usize,
+    cursor: Cursor,
 ) -> Result<usize, Miss>
-    requires at { at ≤ length text.now }
     requires room { length (B.items builder.old) < most_slots }
     ensures kind { B.kind builder.new ≡ B.kind builder.old }
     ensures coding { B.coding builder.new ≡ B.coding builder.old }
-    ensures ok { IfOk result (λ end. (d : Data) × SpellsAt depth (drop at text.now) d (drop end text.now)
-        × IsSlotAdded (spelling_at (B.kind builder.old) (B.coding builder.old)) valid d (B.items builder.old) (B.items builder.new)) }
+    ensures ok { IfOk result (λ end. HasValue cursor.entry end (λ d. IsSlotAdded (spelling_at (B.kind builder.old) (B.coding builder.old)) valid d (B.items builder.old) (B.items builder.new))) }
     ensures err { OnErr result (B.items builder.new ≡ B.items builder.old) }
-    ensures onward { IfOk result (λ end. at < end) }
-    ensures within { IfOk result (λ end. end ≤ length text.now) }
+    ensures onward { IfOk result (IsBehind cursor.entry) }
 {
     match valid {
-        Some(true) => return builder.push_value(text, at),
+        Some(true) => return builder.push_value(cursor.text, cursor.at),
         Some(false) => {}
         None => return Err(Miss::Unread),
     }
-    let end = pass_over(text, at, depth)?;
+    let end = pass_over(cursor.text, cursor.at, cursor.depth)?;
     match builder.push_null() {
         Ok(()) => Ok(end),
         Err(NoMemory) => Err(Miss::NoMemory),
@@ -77,7 +73,7 @@ impl<'v, B: SlotBuilder> ItemVisitor for Slots<'v, B> {
             return Err(Miss::Unread);
         }
         let valid = valid_at(self.validity, self.count);
-        match push_slot(&mut self.builder, valid, text, at, depth) {
+        match push_slot(&mut self.builder, valid, Cursor { text, at, depth }) {
             Ok(end) => {
                 self.count += 1;
                 Ok(end)
@@ -91,24 +87,19 @@ impl<'v, B: SlotBuilder> ItemVisitor for Slots<'v, B> {
 fn read_slots<B: SlotBuilder>(
     builder: B,
     validity: &Option<BitmapBuf>,
-    text: &str,
-    at: usize,
-    depth: usize,
-) -> Result<Placed<Array>, Miss>
-    requires at { at ≤ length text.now }
+    cursor: Cursor,
+) -> ScanResult<Array>
     requires empty { B.items builder ≡ [] }
     requires slotted { IsTrue (is_slotted (B.kind builder) (B.coding builder)) }
-    ensures ok { IfOk result (λ r. (ds : List Data) × SpellsAt depth (drop at text.now) (array (before ds no_items)) (drop r.end text.now)
-        × HoldsSlots (B.kind builder) (B.coding builder) validity.now ds r.value) }
-    ensures onward { IfOk result (λ r. at < r.end) }
-    ensures within { IfOk result (λ r. r.end ≤ length text.now) }
+    ensures ok { IfOk result (λ r. HasValues cursor.entry r.end (λ ds. HoldsSlots (B.kind builder) (B.coding builder) validity.now ds r.value)) }
+    ensures onward { IfOk result (λ r. IsBehind cursor.entry r.end) }
 {
     let mut slots = Slots {
         builder,
         validity,
         count: 0,
     };
-    let end = read_array(text, at, depth, &mut slots)?;
+    let end = read_array(cursor.text, cursor.at, cursor.depth, &mut slots)?;
     match slots.builder.finish() {
         Ok(array) => Ok(Placed { value: array, end }),
         Err(NoMemory) => Err(Miss::NoMemory),
@@ -130,22 +121,17 @@ fn read_texts(
     alloc: Global,
     width: OffsetWidth,
     validity: &Option<BitmapBuf>,
-    text: &str,
-    at: usize,
-    depth: usize,
-) -> Result<Placed<Array>, Miss>
-    requires { at ≤ length text.now }
-    ensures ok { IfOk result (λ r. (ds : List Data) × SpellsAt depth (drop at text.now) (array (before ds no_items)) (drop r.end text.now)
-        × HoldsSlots (kind.texts width) None validity.now ds r.value) }
-    ensures onward { IfOk result (λ r. at < r.end) }
-    ensures within { IfOk result (λ r. r.end ≤ length text.now) }
+    cursor: Cursor,
+) -> ScanResult<Array>
+    ensures ok { IfOk result (λ r. HasValues cursor.entry r.end (λ ds. HoldsSlots (kind.texts width) None validity.now ds r.value)) }
+    ensures onward { IfOk result (λ r. IsBehind cursor.entry r.end) }
 {
     let builder = match TextBuilder::with_capacity(alloc, width, flagged(validity), 0) {
         Ok(builder) => builder,
         Err(NoMemory) => return Err(Miss::NoMemory),
     };
     let buffer = Vec::new(alloc);
-    read_slots(TextColumn { builder, buffer }, validity, text, at, depth)
+    read_slots(TextColumn { builder, buffer }, validity, cursor)
 }
 
 /// The same of indices into a dictionary.
@@ -153,15 +139,10 @@ fn read_codes(
     alloc: Global,
     coding: &Coding,
     validity: &Option<BitmapBuf>,
-    text: &str,
-    at: usize,
-    depth: usize,
-) -> Result<Placed<Array>, Miss>
-    requires { at ≤ length text.now }
-    ensures ok { IfOk result (λ r. (ds : List Data) × SpellsAt depth (drop at text.now) (array (before ds no_items)) (drop r.end text.now)
-        × HoldsSlots kind.dict (Some (coding_of coding.now)) validity.now ds r.value) }
-    ensures onward { IfOk result (λ r. at < r.end) }
-    ensures within { IfOk result (λ r. r.end ≤ length text.now) }
+    cursor: Cursor,
+) -> ScanResult<Array>
+    ensures ok { IfOk result (λ r. HasValues cursor.entry r.end (λ ds. HoldsSlots kind.dict (Some (coding_of coding.now)) validity.now ds r.value)) }
+    ensures onward { IfOk result (λ r. IsBehind cursor.entry r.end) }
 {
     let entries = coding.words.view().slots();
     let builder = match IntBuilder::with_capacity(alloc, INT32, flagged(validity)) {
@@ -173,7 +154,7 @@ fn read_codes(
         entries,
         builder,
     };
-    read_slots(codes, validity, text, at, depth)
+    read_slots(codes, validity, cursor)
 }
 
 /// The array of the values that stand here, or after spaces, of a column that isn't encoded. Lists aren't read.
@@ -181,27 +162,22 @@ fn read_plain(
     alloc: Global,
     field: &Field,
     validity: &Option<BitmapBuf>,
-    text: &str,
-    at: usize,
-    depth: usize,
-) -> Result<Placed<Array>, Miss>
-    requires { at ≤ length text.now }
-    ensures ok { IfOk result (λ r. (ds : List Data) × SpellsAt depth (drop at text.now) (array (before ds no_items)) (drop r.end text.now)
-        × HoldsSlots (kind_of (out-Field field.now).ty) None validity.now ds r.value) }
-    ensures onward { IfOk result (λ r. at < r.end) }
-    ensures within { IfOk result (λ r. r.end ≤ length text.now) }
+    cursor: Cursor,
+) -> ScanResult<Array>
+    ensures ok { IfOk result (λ r. HasValues cursor.entry r.end (λ ds. HoldsSlots (kind_of (out-Field field.now).ty) None validity.now ds r.value)) }
+    ensures onward { IfOk result (λ r. IsBehind cursor.entry r.end) }
 {
     match &field.ty {
         DataType::Int(ty) => match IntBuilder::with_capacity(alloc, *ty, flagged(validity)) {
-            Ok(builder) => read_slots(IntColumn { ty: *ty, builder }, validity, text, at, depth),
+            Ok(builder) => read_slots(IntColumn { ty: *ty, builder }, validity, cursor),
             Err(NoMemory) => Err(Miss::NoMemory),
         },
         DataType::Bool => match BoolBuilder::with_capacity(alloc, flagged(validity)) {
-            Ok(builder) => read_slots(builder, validity, text, at, depth),
+            Ok(builder) => read_slots(builder, validity, cursor),
             Err(NoMemory) => Err(Miss::NoMemory),
         },
-        DataType::Utf8 => read_texts(alloc, OffsetWidth::Narrow, validity, text, at, depth),
-        DataType::LargeUtf8 => read_texts(alloc, OffsetWidth::Wide, validity, text, at, depth),
+        DataType::Utf8 => read_texts(alloc, OffsetWidth::Narrow, validity, cursor),
+        DataType::LargeUtf8 => read_texts(alloc, OffsetWidth::Wide, validity, cursor),
         DataType::List(_) | DataType::LargeList(_) | DataType::Dict => Err(Miss::Unread),
     }
 }
@@ -211,21 +187,16 @@ pub(crate) fn read_values(
     alloc: Global,
     field: EncodedField,
     validity: &Option<BitmapBuf>,
-    text: &str,
-    at: usize,
-    depth: usize,
-) -> Result<Placed<Array>, Miss>
-    requires { at ≤ length text.now }
-    ensures ok { IfOk result (λ r. (ds : List Data) × SpellsAt depth (drop at text.now) (array (before ds no_items)) (drop r.end text.now)
-        × HoldsSlots (kind_in field.entry) (coding_in field.entry) validity.now ds r.value) }
-    ensures onward { IfOk result (λ r. at < r.end) }
-    ensures within { IfOk result (λ r. r.end ≤ length text.now) }
+    cursor: Cursor,
+) -> ScanResult<Array>
+    ensures ok { IfOk result (λ r. HasValues cursor.entry r.end (λ ds. HoldsSlots (kind_in field.entry) (coding_in field.entry) validity.now ds r.value)) }
+    ensures onward { IfOk result (λ r. IsBehind cursor.entry r.end) }
 {
     let Some(coding) = field.coding else {
-        return read_plain(alloc, field.field, validity, text, at, depth);
+        return read_plain(alloc, field.field, validity, cursor);
     };
     match &field.field.ty {
-        DataType::Dict => read_codes(alloc, coding, validity, text, at, depth),
+        DataType::Dict => read_codes(alloc, coding, validity, cursor),
         DataType::Int(_)
         | DataType::Bool
         | DataType::Utf8

@@ -10,4 +10,4 @@ returns-then-read-place c =
     let place = c.in-Some.place in
     let ends : c.in_ok-read.read.end ≡ place.end = search rules in
     let spelled = subst (λ e. SpellsAt c.args.depth (drop place.start c.args.text.now) read.0 (drop e c.args.text.now)) ends read.1 in
-    λ found stands. (read.2, read.3, placed_file c.args.depth c.args.text.now found place read.0 read.2 _ (subst (StandsOn c.args.depth c.args.text.now found) c.in-Some.is stands) spelled read.4)
+    λ found stands. (read.2.0, read.2.1, placed_file c.args.depth c.args.text.now found place read.0 read.2.0 _ (subst (StandsOn c.args.depth c.args.text.now found) c.in-Some.is stands) spelled read.2.2)

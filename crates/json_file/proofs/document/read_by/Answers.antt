@@ -8,4 +8,4 @@ returns-clause-ok c =
     let head = c.in_ok-schema.ensures in
     let read = c.in_ok-batches.ensures.ok in
     let coded = rw c.deref.ensures.value at read.2 in
-    (array (before read.0 no_items), read.1, head.0, head.1, file_held head.0 _ _ read.0 _ _ head.2 head.3 coded c.new.ensures)
+    (array (before read.0 no_items), read.1, (head.0, head.1, file_held head.0 _ _ read.0 _ _ head.2 head.3 coded c.new.ensures))

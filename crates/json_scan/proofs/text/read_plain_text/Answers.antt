@@ -25,10 +25,4 @@ returns-clause-lexeme c =
 pub returns-clause-reads : goal.returns-clause-reads
 returns-clause-reads c =
     let d = c.args.text.now in
-    let same = c.as_bytes-bytes.ensures.value in
-    let quote = c.after_space-quote.result in
-    let stop = c.plain_end-stop.result in
-    let q : get_or d quote 32 ≡ 34 = rw (← same) (omega arith) in
-    let close : get_or d stop 32 ≡ 34 = rw (← same) (omega arith) in
-    text_spells (drop c.args.at d) (drop (stop + 1) d) c.range.result.now
-    (rw c.range.ensures.value (plain_text d c.args.at quote stop (rw same at c.after_space-quote.ensures.same) q (rw same at c.plain_end-stop.ensures.content) (rw same at c.plain_end-stop.ensures.passed) close))
+    text_spells (drop c.args.at d) (drop (c.plain_end-stop.result + 1) d) c.range.result.now (returns-clause-lexeme c)

@@ -7,5 +7,5 @@ pub returns-clause-ok : goal.returns-clause-ok
 returns-clause-ok c =
     let read = c.in_ok-end.ensures.ok in
     let h = read.2 (refl, refl) in
-    let one = child_alone _ (c.args.depth - 1) c.args.text.now read.0 c.read_array.new.visitor.child c.in-Some.value c.in-Some.is h.1 in
-    (one.0, subst (λ d. SpellsAt c.args.depth (drop c.args.at c.args.text.now) d (drop c.in_ok-end.end c.args.text.now)) one.1 read.1, one.2)
+    let one = child_alone _ (c.args.cursor.depth - 1) c.args.cursor.text.now read.0 c.read_array.new.visitor.child c.in-Some.value c.in-Some.is h.1 in
+    (one.0, subst (λ d. SpellsAt c.args.cursor.depth (drop c.args.cursor.at c.args.cursor.text.now) d (drop c.in_ok-end.end c.args.cursor.text.now)) one.1 read.1, one.2)

@@ -6,4 +6,4 @@ pub returns-in-Null-clause-ok : goal.returns-in-Null-clause-ok
 returns-in-Null-clause-ok c =
     let reads = rw c.as_bytes.ensures.value at c.in-Some.ensures.reads in
     let is = rw c.in-Null.is at reads in
-    (null, is c.args.depth, refl)
+    (null, is c.args.cursor.depth, refl)

@@ -1,22 +1,20 @@
 use Rattle.std.proofs.Common.{◌≡◌, ◌≢◌, map, option_map, refl, ap, rules}
 use Rattle.arrays.specs.Shape.{fields_of}
-use Rattle.json_read.specs.Data.{number, array, no_items}
+use Rattle.json_read.specs.Data.{array, no_items}
 use Rattle.json_read.specs.JsonPath.{member_name}
 use Rattle.json_read.specs.Members as member
 use Rattle.json_read.specs.CatalogParts.{coding_of}
 use Rattle.json_scan.specs.Spelling.{before}
 use Rattle.json_scan.proofs.Values.{if_ok_then}
 use Rattle.json_stream.proofs.BatchLemmas.{columns_known}
-use Rattle.json_stream.proofs.ColumnLemmas.{counted}
 use Rattle.json_stream.proofs.ReadBatches.{rows_taken, columns_taken, other_passed}
 use Rattle.json_stream.proofs.batch.BatchPartsMemberVisitor.visit.Goals as goal
 
 pub returns-then-eq-clause-ok : goal.returns-then-eq-clause-ok
 returns-then-eq-clause-ok c =
-    let read = rw c.as_bytes.ensures.value at c.in-Some.ensures.reads in
-    let n = c.in-Some.count.value in
+    let read = c.in_ok-count.ensures.ok in
     let same : c.args.name.now ≡ member_name member.Count = search rules in
-    (number read.0, read.2 c.args.depth, λ first ms h. (h.0, h.1, rows_taken _ _ c.args.name.now (number read.0) ms c.args.self.now h.2 n same (counted read.0 n read.1 c.in-Some.ensures.small)))
+    (read.0, read.1, λ first ms h. (h.0, h.1, rows_taken _ _ c.args.name.now read.0 ms c.args.self.now h.2 c.in_ok-count.count.value same read.2))
 
 pub returns-then-eq-2-clause-ok : goal.returns-then-eq-2-clause-ok
 returns-then-eq-2-clause-ok c =

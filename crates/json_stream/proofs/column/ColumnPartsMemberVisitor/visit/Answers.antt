@@ -1,20 +1,17 @@
-use Rattle.std.proofs.Common.{◌≡◌, ◌≢◌, false, drop, Some, subst, rules}
-use Rattle.json_scan.specs.Lex.{lex, between, begins_colon}
-use Rattle.json_read.specs.Data.{number}
+use Rattle.std.proofs.Common.{◌≡◌, ◌≢◌, Some, subst, rules}
 use Rattle.json_read.specs.JsonPath.{member_name}
 use Rattle.json_read.specs.Members as member
 use Rattle.json_scan.proofs.Values.{if_ok_then}
 use Rattle.json_stream.specs.Column.{IsValues}
 use Rattle.json_stream.specs.Field.{kind_in, coding_in}
-use Rattle.json_stream.proofs.ColumnLemmas.{count_taken, counted, validity_taken, data_taken, passed}
+use Rattle.json_stream.proofs.ColumnLemmas.{count_taken, validity_taken, data_taken, passed}
 use Rattle.json_stream.proofs.column.ColumnPartsMemberVisitor.visit.Goals as goal
 
 pub returns-then-eq-clause-ok : goal.returns-then-eq-clause-ok
 returns-then-eq-clause-ok c =
-    let read = rw c.as_bytes.ensures.value at c.in-Some.ensures.reads in
-    let n = c.in-Some.count.value in
+    let read = c.in_ok-count.ensures.ok in
     let same : c.args.name.now ≡ member_name member.Count = search rules in
-    (number read.0, read.2 c.args.depth, λ first ms h. (h.0, count_taken _ _ c.args.depth c.args.text.now c.args.name.now (number read.0) ms c.args.self.now h.1 n same (counted read.0 n read.1 c.in-Some.ensures.small)))
+    (read.0, read.1, λ first ms h. (h.0, count_taken _ _ c.args.depth c.args.text.now c.args.name.now read.0 ms c.args.self.now h.1 c.in_ok-count.count.value same read.2))
 
 pub returns-then-eq-2-clause-ok : goal.returns-then-eq-2-clause-ok
 returns-then-eq-2-clause-ok c =
@@ -25,15 +22,13 @@ returns-then-eq-2-clause-ok c =
 pub returns-then-eq-3-clause-ok : goal.returns-then-eq-3-clause-ok
 returns-then-eq-3-clause-ok c =
     let read = c.in_ok-data.ensures.ok in
-    let end = c.in_ok-data.data.end in
     let values = c.in_ok-data.data.value in
-    let same : c.args.name.now ≡ member_name member.Data = search rules in
-    let apart : begins_colon (lex between (drop end c.args.text.now)) ≡ false = search rules in (
+    let same : c.args.name.now ≡ member_name member.Data = search rules in (
       read.0,
       read.1,
       λ first ms h. (
         h.0,
-        data_taken _ _ c.args.depth c.args.text.now c.args.name.now read.0 ms c.args.self.now h.1 (record { start = c.args.at; end = end }) values same read.1 apart
+        data_taken _ _ c.args.depth c.args.text.now c.args.name.now read.0 ms c.args.self.now h.1 c.in_ok-place.place values same (c.in_ok-place.ensures.stands read.0 read.1)
             (subst (λ f. IsValues (kind_in f) (coding_in f) c.args.self.now.validity (Some read.0) values) h.0 read.2),
       ),
     )
