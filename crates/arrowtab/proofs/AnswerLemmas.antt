@@ -23,22 +23,20 @@ use Rattle.table.specs.Widened.{add_fault}
 use Rattle.table.specs.declared.add_fault.AddFault.{AddFault}
 use Rattle.table.specs.declared.refusal.Refusal.{Refusal}
 use Rattle.arrowtab.specs.Column.{IsColumn, RefusesColumn, column_text, fields_with, history_with}
-use Rattle.arrowtab.specs.Explained.{Explains}
 use Rattle.arrowtab.specs.Loaded.{IsLoaded, IsStopped}
-use Rattle.arrowtab.specs.OrMemory.{OrMemory}
+use Rattle.reports.specs.OrMemory.{OrMemory}
 use Rattle.arrowtab.specs.Output.{Prints, PrintsNothing}
-use Rattle.arrowtab.specs.Run.{Answers, AreRead, Inputs, Refuses, RefusesQuery}
+use Rattle.arrowtab.specs.Run.{Answers, AreRead, Explains, Inputs, OfJob, Refuses, RefusesQuery}
 use Rattle.arrowtab.specs.Wanted.{IsUnprinted, IsUnread, IsWanted, PrintsWanted}
 use Rattle.arrowtab.specs.Worked.{Holds, StopsLoading, listed}
 use Rattle.arrowtab.specs.declared.wanted.Wanted.{Wanted}
 use Rattle.arrowtab.specs.declared.wanted.Wanted.TheVariants.{Groups}
 use Rattle.reports.specs.FileBatches.{FileBatch, batch_of, batches_with_fields, table_fields}
 use Rattle.reports.specs.Queried.{RefusesGroups}
-use Rattle.reports.specs.QueryFaults.{IsUnanswered, IsUnreadQuery}
+use Rattle.reports.specs.QueryFaults.{IsUnreadQuery}
 use Rattle.reports.proofs.FileLemmas.{AreKept, data_of, file-listed}
 use Rattle.loads.specs.Loaded.{fields_for}
 use Rattle.reports.specs.declared.run_fault.RunFault.{RunFault}
-use Rattle.reports.specs.declared.run_fault.RunFault.TheVariants.{NoMemory, OfColumn, OfFile, QueryUnread, QueryRefused}
 
 -- ---- batches of files, as the files' bytes say them
 
@@ -109,15 +107,8 @@ module _ (job : Job) (inputs : Inputs) (files : List File) (are_read : AreRead i
     -- ---- the command's output
 
     module _ (wanted : Wanted) (asked : IsWanted job.command wanted) (v : Contents) (holds : Holds job.workers files column v) where
-      over_files : (P : List FieldShape → History → Type 0) → P v.fields v.history
-          → P (fields_with column (table_fields (data_of files))) (history_with column (table_fields (data_of files)) holds.history)
-      over_files P is =
-          subst (λ (fs : List FieldShape). P (fields_with column fs) (history_with column fs holds.history)) (sym (fields-same files))
-          (subst (λ (h : History). P (fields_with column (fields_for files)) h) holds.history_is
-          (subst (λ (fs : List FieldShape). P fs v.history) holds.fields is))
-
-      answers_printed : (text : List ℕ) → PrintsWanted wanted job.workers v.fields v.history text → Answers job inputs text
-      answers_printed text prints = record {
+      of_job : (says : List FieldShape → History → Type 0) → says v.fields v.history → OfJob job inputs says
+      of_job says is = record {
         files = data_of files;
         read = are_read;
         column = column;
@@ -125,34 +116,26 @@ module _ (job : Job) (inputs : Inputs) (files : List File) (are_read : AreRead i
         allowed = holds.allowed;
         history = holds.history;
         loaded = loaded_data holds.history holds.loaded;
-        prints = over_files (λ fs h. Prints job.command job.workers fs h text) (prints_command job.command wanted job.workers v.fields v.history text asked prints);
+        is =
+            subst (λ (fs : List FieldShape). says (fields_with column fs) (history_with column fs holds.history)) (sym (fields-same files))
+            (subst (λ (h : History). says (fields_with column (fields_for files)) h) holds.history_is
+            (subst (λ (fs : List FieldShape). says fs v.history) holds.fields is));
       }
+
+      answers_printed : (text : List ℕ) → PrintsWanted wanted job.workers v.fields v.history text → Answers job inputs text
+      answers_printed text prints =
+          of_job (λ fs h. Prints job.command job.workers fs h text) (prints_command job.command wanted job.workers v.fields v.history text asked prints)
 
       refuses_unanswered : (query : QueryText) (output : Output) (fault : QueryFault) → wanted ≡ Groups query output → RefusesGroups (named query) v.fields v.history fault → RefusesQuery job inputs fault
       refuses_unanswered query output fault same refuses =
           let asks = asks_query job.command wanted query output asked same in
-          record {
-            files = data_of files;
-            read = are_read;
-            column = column;
-            given = given;
-            allowed = holds.allowed;
-            history = holds.history;
-            loaded = loaded_data holds.history holds.loaded;
-            refused = over_files (λ fs h. PrintsNothing job.command fs h fault) (record { source = asks.0; output = output; asks = asks.1; query = named query; reads = asks.2; refuses = refuses });
-          }
-
-      unanswered_explains : (query : QueryText) (output : Output) (before after : List ℕ) (fault : RunFault) → wanted ≡ Groups query output → IsUnanswered (named query) v.fields v.history fault
-          → Explains job inputs before after fault
-      unanswered_explains query output before after NoMemory same why = tt
-      unanswered_explains query output before after (OfFile file fault) same why = absurd why
-      unanswered_explains query output before after (QueryUnread f) same why = absurd why
-      unanswered_explains query output before after (QueryRefused f) same why = refuses_unanswered query output f same why
-      unanswered_explains query output before after (OfColumn f) same why = absurd why
+          of_job (λ fs h. PrintsNothing job.command fs h fault) (record { source = asks.0; output = output; asks = asks.1; query = named query; reads = asks.2; refuses = refuses })
 
       output_explains : (before after : List ℕ) (fault : RunFault) → OrMemory (IsUnprinted wanted v.fields v.history) fault → Explains job inputs before after fault
       output_explains before after fault (inl is) = subst (Explains job inputs before after) (sym is) tt
-      output_explains before after fault (inr why) = unanswered_explains why.0 why.1 before after fault why.2 why.3
+      output_explains before after fault (inr why) =
+          let refused = why.3 in
+          subst (Explains job inputs before after) (sym refused.1) (refuses_unanswered why.0 why.1 refused.0 why.2 refused.2)
 
       pub ok_answers : {A : Type 0} (r : Result A RunFault) (text : A → List ℕ) → IfOk r (λ t. PrintsWanted wanted job.workers v.fields v.history (text t)) → IfOk r (λ t. Answers job inputs (text t))
       ok_answers (Ok t) text prints = answers_printed (text t) prints
@@ -162,12 +145,8 @@ module _ (job : Job) (inputs : Inputs) (files : List File) (are_read : AreRead i
       err_explains before after r why = IfErr-weaker r _ _ (output_explains before after) why
 
 -- the fault of a query's text is one of the command that has the text
-pub text_unread : (command : Command) (source : QuerySource) (output : Output) (fault : RunFault) → command ≡ Query source output → IsUnreadQuery (text_of_query source) fault → OrMemory (IsUnread command) fault
-text_unread command source output NoMemory asks why = inl refl
-text_unread command source output (OfFile file fault) asks why = absurd why
-text_unread command source output (QueryUnread f) asks why = inr (f, refl, record { source = source; output = output; asks = asks; stands = why })
-text_unread command source output (QueryRefused f) asks why = absurd why
-text_unread command source output (OfColumn f) asks why = absurd why
+pub text_unread : (command : Command) (source : QuerySource) (output : Output) → command ≡ Query source output → (fault : RunFault) → IsUnreadQuery (text_of_query source) fault → IsUnread command fault
+text_unread command source output asks fault why = (why.0, why.1, record { source = source; output = output; asks = asks; stands = why.2 })
 
 -- there are as many files as sources
 pub some_files : (inputs : Inputs) (files : List File) → AreRead inputs (data_of files) → length files ≡ length inputs

@@ -3,7 +3,8 @@ use Rattle.std.proofs.Common.{◌≡◌, ◌∙◌, ℕ, zero, suc, ◌+◌, ◌
 use Rattle.std.proofs.lemmas.Bool.{cases_lt, false≢true}
 use Rattle.std.proofs.lemmas.List.{get_or-set_same, length-append, length-map, length-set, map-append}
 use Rattle.std.proofs.lemmas.Option.{get_or_from_slice_get, slice_get-get_or, slice_get-map}
-use Rattle.std.proofs.lemmas.Slice.Zip.{AllZip-long}
+use Rattle.std.proofs.Math.Seq.{take-append_seam}
+use Rattle.std.proofs.lemmas.Slice.Zip.{AllZip-long, all_zipped_more}
 use Rattle.std.specs.Prelude.{◌⊎◌, All, Err, is_some}
 use Rattle.std.specs.List.{AllByRecursion, AllZip}
 use Rattle.arrays.specs.File.{File}
@@ -14,18 +15,18 @@ use Rattle.ends.specs.declared.source.SourceFault.TheVariants.{ReadFailed}
 use Rattle.arrow_json.proofs.Found.{Some_inj}
 use Rattle.arrow_json.specs.JsonTable.{FileData}
 use Rattle.arrow_json.specs.JsonFault.{JsonFault}
-use Rattle.reports.proofs.ParseLemmas.{texts_under, zip_more}
+use Rattle.reports.proofs.ParseLemmas.{texts_under}
 use Rattle.arrowtab.specs.Explained.{IsFileUnread, not_read, source_failed}
-use Rattle.arrowtab.specs.OrMemory.{OrMemory}
+use Rattle.reports.specs.OrMemory.{OrMemory}
 use Rattle.reports.specs.Parsed.{AddsFiles, IsFirstUnread, IsTextOf, StopsParsing}
 use Rattle.arrowtab.specs.Run.{AreRead, Inputs}
-use Rattle.reports.specs.declared.run_fault.FileFault.TheVariants.{CannotRead, Json, Refused}
+use Rattle.reports.specs.declared.run_fault.FileFault.TheVariants.{CannotRead}
 use Rattle.reports.specs.declared.run_fault.RunFault.{RunFault}
-use Rattle.reports.specs.declared.run_fault.RunFault.TheVariants.{NoMemory, OfColumn, OfFile, QueryUnread, QueryRefused}
+use Rattle.reports.specs.declared.run_fault.RunFault.TheVariants.{NoMemory, OfFile}
 
 -- ---- lists beside one another
 
-all_append : {X : Type 0} (P : X → Type 0) (xs ys : List X) → AllByRecursion P xs → AllByRecursion P ys → AllByRecursion P (xs ++ ys)
+pub all_append : {X : Type 0} (P : X → Type 0) (xs ys : List X) → AllByRecursion P xs → AllByRecursion P ys → AllByRecursion P (xs ++ ys)
 all_append P [] ys all more = more
 all_append P (x ∷ xs) ys all more = (all.0, all_append P xs ys all.1 more)
 
@@ -34,11 +35,6 @@ zip_append R [] us [] vs all more = more
 zip_append R [] us (y ∷ ys) vs all more = absurd all
 zip_append R (x ∷ xs) us [] vs all more = absurd all
 zip_append R (x ∷ xs) us (y ∷ ys) vs all more = (all.0, zip_append R xs us ys vs all.1 more)
-
-front_of : {X : Type 0} (xs ys : List X) → take (length xs) (xs ++ ys) ≡ xs
-front_of [] [] = refl
-front_of [] (y ∷ ys) = refl
-front_of (x ∷ xs) ys = ap (λ l. x ∷ l) (front_of xs ys)
 
 next_of : {X : Type 0} (xs : List X) (y : X) (ys : List X) → slice_get (xs ++ y ∷ ys) (length xs) ≡ Some y
 next_of [] y ys = refl
@@ -179,7 +175,7 @@ module _ {S : Type 0} where
             count = omega (arith, so_far.count, length-append so_far.back (remaining s ∷ []));
             read = so_far.read;
             under = so_far.under;
-            reported = zip_more IsRead so_far.back texts (remaining s) text so_far.reported reported;
+            reported = all_zipped_more IsRead so_far.back texts (remaining s) text so_far.reported reported;
           }
 
       -- the texts are parsed
@@ -237,21 +233,17 @@ module _ {S : Type 0} where
             fails = reported_stands p.input u.text f p.tells u.stands;
           }
 
-      pub parsing_stops : (after : List ℕ) (fault : RunFault) → ((i : ℕ) → i < n → slice_get after i ≡ slice_get (map failures olds) i) → StopsParsing texts (length files) fault
+      pub parsing_stops : (after : List ℕ) (fault : RunFault) → ((i : ℕ) → i < n → slice_get after i ≡ slice_get (map failures olds) i) → OrMemory (StopsParsing texts (length files)) fault
           → OrMemory (IsFileUnread (map remaining olds) (map failures olds) after) fault
-      parsing_stops after NoMemory quiet why = inl refl
-      parsing_stops after (OfFile file CannotRead) quiet why = absurd why
-      parsing_stops after (OfFile file (Json f)) quiet why =
-          let u = unread file f why in
-          let front : take file (map remaining olds) ≡ u.fore = ap (take file) u.split ∙ subst (λ k. take k (u.fore ++ u.input ∷ u.aft) ≡ u.fore) (sym u.place) (front_of u.fore (u.input ∷ u.aft)) in
-          inr (not_read file f
+      parsing_stops after fault quiet (inl is) = inl is
+      parsing_stops after fault quiet (inr why) =
+          let file = why.0 in
+          let u = unread file why.1 why.3 in
+          let front : take file (map remaining olds) ≡ u.fore = ap (take file) u.split ∙ subst (λ k. take k (u.fore ++ u.input ∷ u.aft) ≡ u.fore) (sym u.place) (take-append_seam u.fore (u.input ∷ u.aft)) in
+          inr (not_read file why.1
           (record { quiet = λ i h. quiet i (omega (arith, h, u.within)); files = u.data_before; read = subst (λ inputs. AreRead inputs u.data_before) (sym front) u.read_before })
-          refl
+          why.2
           (record { input = u.input; of_file = ap (λ l. slice_get l file) u.split ∙ subst (λ k. slice_get (u.fore ++ u.input ∷ u.aft) k ≡ Some u.input) (sym u.place) (next_of u.fore u.input u.aft); stands = u.fails }))
-      parsing_stops after (OfFile file (Refused number refusal)) quiet why = absurd why
-      parsing_stops after (QueryUnread f) quiet why = absurd why
-      parsing_stops after (QueryRefused f) quiet why = absurd why
-      parsing_stops after (OfColumn f) quiet why = absurd why
 
       -- ---- a source that isn't read, of number n: the files before it are
 
@@ -261,7 +253,7 @@ module _ {S : Type 0} where
       source_stops d new fault reported more within counted adds (inl is) = inl is
       source_stops d new fault reported more within counted adds (inr is) =
           let fore = so_far.front ++ so_far.back in
-          let front : take n (map remaining olds) ≡ fore = ap (take n) whole ∙ subst (λ k. take k (fore ++ so_far.rest) ≡ fore) (sym long) (front_of fore so_far.rest) in
+          let front : take n (map remaining olds) ≡ fore = ap (take n) whole ∙ subst (λ k. take k (fore ++ so_far.rest) ≡ fore) (sym long) (take-append_seam fore so_far.rest) in
           inr (source_failed n
           (record { quiet = λ i h. still i new h; files = map file_of more; read = subst (λ inputs. AreRead inputs (map file_of more)) (sym front) (all_read more adds) })
           is.1

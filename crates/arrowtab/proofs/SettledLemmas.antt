@@ -1,7 +1,7 @@
 -- What doesn't depend on whose tables come first.
 use Rattle.std.proofs.Common.{◌≡◌, ◌∙◌, ℕ, zero, suc, ◌+◌, ◌<◌, ℤ, ◌<ℤ◌, ◌+ℤ◌, List, [], ◌∷◌, ◌++◌, Bool, true, false, cond, Option, None, Some, option_map, length, map, filter, get_or, ap, sym, refl, append_assoc, arith, length-append}
 use Rattle.std.specs.Prelude.{◌==◌, not}
-use Rattle.std.specs.Cmp.{IsTotalOrder, bool_cmp_total, int_ranks, ranks}
+use Rattle.std.specs.Cmp.{bool_cmp_total, int_ranks, ranks}
 use Rattle.std.specs.Cmp.Lexicographic.{slice_cmp}
 use Rattle.std.specs.List.{AllByRecursion, filter_map, flat_map, enumerate_from, range_with_len, reduce}
 use Rattle.std.specs.Ordering.{MatchOrdering, bool_cmp, int_cmp, is_gt, nat_cmp, ordering_reverse, ordering_then}
@@ -70,67 +70,52 @@ same_bytes [] (y ∷ ys) is = absurd (cc is)
 same_bytes (x ∷ xs) [] is = absurd (cc is)
 same_bytes (x ∷ xs) (y ∷ ys) is = same_first x y xs ys (nat_cmp x y) (ranks x y) (same_bytes xs ys) is
 
-module _ {X : Type 0} (R : X → X → Ordering) (total : IsTotalOrder R) (same : (x y : X) → R x y ≡ Equal → x ≡ y) (item : X → Item) (p : Item → Bool) (values : List Item → List X)
-    (are : (xs : List Item) → filter p xs ≡ map item (values xs)) where
-  -- the least
-  least_is : (choose : Item → Item → Item) → ((x y : X) → choose (item x) (item y) ≡ item (cond (is_gt (R x y)) y x)) → (xs : List Item)
-      → reduce choose (filter p xs) ≡ option_map item (reduce (λ x y. cond (is_gt (R x y)) y x) (values xs))
-  least_is choose chooses xs = ap (reduce choose) (are xs) ∙ reduce-items item choose (λ x y. cond (is_gt (R x y)) y x) chooses (values xs)
+-- what comes first of all in an order
+module _ {X : Type 0} (R : X → X → Ordering) (reverses : (x y : X) → R x y ≡ ordering_reverse (R y x)) (same : (x y : X) → R x y ≡ Equal → x ≡ y) (item : X → Item) (p : Item → Bool) (values : List Item → List X)
+    (are : (xs : List Item) → filter p xs ≡ map item (values xs)) (choose : Item → Item → Item) (chooses : (x y : X) → choose (item x) (item y) ≡ item (cond (is_gt (R x y)) y x)) where
+  first_is : (xs : List Item) → reduce choose (filter p xs) ≡ option_map item (reduce (λ x y. cond (is_gt (R x y)) y x) (values xs))
+  first_is xs = ap (reduce choose) (are xs) ∙ reduce-items item choose (λ x y. cond (is_gt (R x y)) y x) chooses (values xs)
 
-  flips_least : (choose : Item → Item → Item) → ((x y : X) → choose (item x) (item y) ≡ item (cond (is_gt (R x y)) y x)) → (x y : X) → choose (item x) (item y) ≡ choose (item y) (item x)
-  flips_least choose chooses x y = chooses x y ∙ ap item (flipped x y (R x y) (R y x) (total.antisymm x y) (λ e. sym (same y x e))) ∙ sym (chooses y x)
+  flips : (x y : X) → choose (item x) (item y) ≡ choose (item y) (item x)
+  flips x y = chooses x y ∙ ap item (flipped x y (R x y) (R y x) (reverses x y) (λ e. sym (same y x e))) ∙ sym (chooses y x)
 
-  least_flipped : (choose : Item → Item → Item) → ((x y : X) → choose (item x) (item y) ≡ item (cond (is_gt (R x y)) y x)) → (xs ys : List Item)
-      → better choose (reduce choose (filter p xs)) (reduce choose (filter p ys)) ≡ better choose (reduce choose (filter p ys)) (reduce choose (filter p xs))
-  least_flipped choose chooses xs ys =
-      let a = least_is choose chooses xs in
-      let b = least_is choose chooses ys in
+  first_flipped : (xs ys : List Item) → better choose (reduce choose (filter p xs)) (reduce choose (filter p ys)) ≡ better choose (reduce choose (filter p ys)) (reduce choose (filter p xs))
+  first_flipped xs ys =
+      let a = first_is xs in
+      let b = first_is ys in
       (λ j. better choose (a j) (b j))
-      ∙ better_flipped item choose (flips_least choose chooses) (reduce (λ x y. cond (is_gt (R x y)) y x) (values xs)) (reduce (λ x y. cond (is_gt (R x y)) y x) (values ys))
-      ∙ sym (λ j. better choose (b j) (a j))
-
-  -- the greatest
-  greatest_is : (choose : Item → Item → Item) → ((x y : X) → choose (item x) (item y) ≡ item (cond (is_gt (R y x)) y x)) → (xs : List Item)
-      → reduce choose (filter p xs) ≡ option_map item (reduce (λ x y. cond (is_gt (R y x)) y x) (values xs))
-  greatest_is choose chooses xs = ap (reduce choose) (are xs) ∙ reduce-items item choose (λ x y. cond (is_gt (R y x)) y x) chooses (values xs)
-
-  flips_greatest : (choose : Item → Item → Item) → ((x y : X) → choose (item x) (item y) ≡ item (cond (is_gt (R y x)) y x)) → (x y : X) → choose (item x) (item y) ≡ choose (item y) (item x)
-  flips_greatest choose chooses x y = chooses x y ∙ ap item (flipped x y (R y x) (R x y) (total.antisymm y x) (λ e. same x y e)) ∙ sym (chooses y x)
-
-  greatest_flipped : (choose : Item → Item → Item) → ((x y : X) → choose (item x) (item y) ≡ item (cond (is_gt (R y x)) y x)) → (xs ys : List Item)
-      → better choose (reduce choose (filter p xs)) (reduce choose (filter p ys)) ≡ better choose (reduce choose (filter p ys)) (reduce choose (filter p xs))
-  greatest_flipped choose chooses xs ys =
-      let a = greatest_is choose chooses xs in
-      let b = greatest_is choose chooses ys in
-      (λ j. better choose (a j) (b j))
-      ∙ better_flipped item choose (flips_greatest choose chooses) (reduce (λ x y. cond (is_gt (R y x)) y x) (values xs)) (reduce (λ x y. cond (is_gt (R y x)) y x) (values ys))
+      ∙ better_flipped item choose flips (reduce (λ x y. cond (is_gt (R x y)) y x) (values xs)) (reduce (λ x y. cond (is_gt (R x y)) y x) (values ys))
       ∙ sym (λ j. better choose (b j) (a j))
 
 -- ---- the statistics of two columns, whichever comes first
 
+least_text : (xs ys : List Item) → better lesser (reduce lesser (filter is_bytes xs)) (reduce lesser (filter is_bytes ys)) ≡ better lesser (reduce lesser (filter is_bytes ys)) (reduce lesser (filter is_bytes xs))
+least_text xs ys =
+    first_flipped (slice_cmp nat_cmp) nat_list_cmp_total.antisymm same_bytes text is_bytes (filter_map bytes_of_text) are_bytes lesser (λ x y. cond-item text (is_gt (slice_cmp nat_cmp x y)) x y) xs ys
+
+greatest_text : (xs ys : List Item) → better greater (reduce greater (filter is_bytes xs)) (reduce greater (filter is_bytes ys)) ≡ better greater (reduce greater (filter is_bytes ys)) (reduce greater (filter is_bytes xs))
+greatest_text xs ys =
+    first_flipped (λ x y. slice_cmp nat_cmp y x) (λ x y. nat_list_cmp_total.antisymm y x) (λ x y e. sym (same_bytes y x e)) text is_bytes (filter_map bytes_of_text) are_bytes greater
+    (λ x y. cond-item text (is_gt (slice_cmp nat_cmp y x)) x y) xs ys
+
+both_none : (choose : Item → Item → Item) (o p : Option Item) → o ≡ None → p ≡ None → better choose o p ≡ better choose p o
+both_none choose o p none other = (λ j. better choose (none j) (other j)) ∙ sym (λ j. better choose (other j) (none j))
+
 flip_least : (k : Kind) (xs ys : List Item) → better lesser (least_of k xs) (least_of k ys) ≡ better lesser (least_of k ys) (least_of k xs)
-flip_least (kind.int t) xs ys = least_flipped int_cmp int_cmp_total same_int int is_number (filter_map number_of) are_numbers lesser (λ x y. cond-item int (is_gt (int_cmp x y)) x y) xs ys
-flip_least kind.boolean xs ys = least_flipped bool_cmp bool_cmp_total same_bool boolean is_truth (filter_map truth_of) are_truths lesser (λ x y. cond-item boolean (is_gt (bool_cmp x y)) x y) xs ys
-flip_least (kind.texts w) xs ys =
-    least_flipped (slice_cmp nat_cmp) nat_list_cmp_total same_bytes text is_bytes (filter_map bytes_of_text) are_bytes lesser (λ x y. cond-item text (is_gt (slice_cmp nat_cmp x y)) x y) xs ys
-flip_least (kind.lists w k) xs ys =
-    let a = no_least_of_lists (kind.lists w k) xs refl in
-    let b = no_least_of_lists (kind.lists w k) ys refl in
-    (λ j. better lesser (a j) (b j)) ∙ sym (λ j. better lesser (b j) (a j))
-flip_least kind.dict xs ys =
-    least_flipped (slice_cmp nat_cmp) nat_list_cmp_total same_bytes text is_bytes (filter_map bytes_of_text) are_bytes lesser (λ x y. cond-item text (is_gt (slice_cmp nat_cmp x y)) x y) xs ys
+flip_least (kind.int t) xs ys = first_flipped int_cmp int_cmp_total.antisymm same_int int is_number (filter_map number_of) are_numbers lesser (λ x y. cond-item int (is_gt (int_cmp x y)) x y) xs ys
+flip_least kind.boolean xs ys = first_flipped bool_cmp bool_cmp_total.antisymm same_bool boolean is_truth (filter_map truth_of) are_truths lesser (λ x y. cond-item boolean (is_gt (bool_cmp x y)) x y) xs ys
+flip_least (kind.texts w) xs ys = least_text xs ys
+flip_least (kind.lists w k) xs ys = both_none lesser _ _ (no_least_of_lists (kind.lists w k) xs refl) (no_least_of_lists (kind.lists w k) ys refl)
+flip_least kind.dict xs ys = least_text xs ys
 
 flip_greatest : (k : Kind) (xs ys : List Item) → better greater (greatest_of k xs) (greatest_of k ys) ≡ better greater (greatest_of k ys) (greatest_of k xs)
-flip_greatest (kind.int t) xs ys = greatest_flipped int_cmp int_cmp_total same_int int is_number (filter_map number_of) are_numbers greater (λ x y. cond-item int (is_gt (int_cmp y x)) x y) xs ys
-flip_greatest kind.boolean xs ys = greatest_flipped bool_cmp bool_cmp_total same_bool boolean is_truth (filter_map truth_of) are_truths greater (λ x y. cond-item boolean (is_gt (bool_cmp y x)) x y) xs ys
-flip_greatest (kind.texts w) xs ys =
-    greatest_flipped (slice_cmp nat_cmp) nat_list_cmp_total same_bytes text is_bytes (filter_map bytes_of_text) are_bytes greater (λ x y. cond-item text (is_gt (slice_cmp nat_cmp y x)) x y) xs ys
-flip_greatest (kind.lists w k) xs ys =
-    let a = no_greatest_of_lists (kind.lists w k) xs refl in
-    let b = no_greatest_of_lists (kind.lists w k) ys refl in
-    (λ j. better greater (a j) (b j)) ∙ sym (λ j. better greater (b j) (a j))
-flip_greatest kind.dict xs ys =
-    greatest_flipped (slice_cmp nat_cmp) nat_list_cmp_total same_bytes text is_bytes (filter_map bytes_of_text) are_bytes greater (λ x y. cond-item text (is_gt (slice_cmp nat_cmp y x)) x y) xs ys
+flip_greatest (kind.int t) xs ys =
+    first_flipped (λ x y. int_cmp y x) (λ x y. int_cmp_total.antisymm y x) (λ x y e. sym (same_int y x e)) int is_number (filter_map number_of) are_numbers greater (λ x y. cond-item int (is_gt (int_cmp y x)) x y) xs ys
+flip_greatest kind.boolean xs ys =
+    first_flipped (λ x y. bool_cmp y x) (λ x y. bool_cmp_total.antisymm y x) (λ x y e. sym (same_bool y x e)) boolean is_truth (filter_map truth_of) are_truths greater (λ x y. cond-item boolean (is_gt (bool_cmp y x)) x y) xs ys
+flip_greatest (kind.texts w) xs ys = greatest_text xs ys
+flip_greatest (kind.lists w k) xs ys = both_none greater _ _ (no_greatest_of_lists (kind.lists w k) xs refl) (no_greatest_of_lists (kind.lists w k) ys refl)
+flip_greatest kind.dict xs ys = greatest_text xs ys
 
 flip_sums : (a b : Option ℤ) → both_sums a b ≡ both_sums b a
 flip_sums None None = refl

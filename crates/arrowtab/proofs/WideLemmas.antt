@@ -30,6 +30,7 @@ use Rattle.arrowtab.specs.Loaded.{IsLoaded}
 use Rattle.arrowtab.specs.Worked.{AreAsWide, Holds, IsWidenedFirst, listed}
 use Rattle.reports.specs.declared.run_fault.RunFault.{RunFault}
 use Rattle.loads.proofs.PlanLemmas.{all_from, by_recursion, each_planned, same_test, whole_begun}
+use Rattle.arrowtab.proofs.ReadLemmas.{all_append}
 use Rattle.arrowtab.proofs.TogetherLemmas.{all_there, has_planned, new_at, nobody, none_added}
 use Rattle.arrowtab.proofs.WorkedLemmas.{Fits, loaded_of}
 
@@ -56,13 +57,9 @@ none_other n fields files same fits other =
 -- ---- the batches of a plan
 
 module _ {B : Type 0} (P : B → Type 0) where
-  all_joined : (xs ys : List B) → AllByRecursion P xs → AllByRecursion P ys → AllByRecursion P (xs ++ ys)
-  all_joined [] ys one two = two
-  all_joined (x ∷ xs) ys one two = (one.0, all_joined xs ys one.1 two)
-
   all_kept : (b : Bool) (e : ℕ × List B) (es : List (ℕ × List B)) → AllByRecursion P e.1 → AllByRecursion P (flat_map (λ (x : ℕ × List B). x.1) es)
       → AllByRecursion P (flat_map (λ (x : ℕ × List B). x.1) (cond b (e ∷ es) es))
-  all_kept true e es one rest = all_joined e.1 (flat_map (λ (x : ℕ × List B). x.1) es) one rest
+  all_kept true e es one rest = all_append P e.1 (flat_map (λ (x : ℕ × List B). x.1) es) one rest
   all_kept false e es one rest = rest
 
   all_numbered : (n workers place : ℕ) (files : List (List B)) → AllByRecursion (AllByRecursion P) files

@@ -1,8 +1,8 @@
 -- What the program writes, and why it refuses: stated over the bytes that its sources tell.
-use Rattle.std.specs.Prelude.{◌≡◌, ◌<◌, ℕ, List, map, Option, Some, IfSome, slice_get}
+use Rattle.std.specs.Prelude.{◌≡◌, ◌⊎◌, ◌<◌, ℕ, List, map, Option, Some, IfSome, slice_get, ⊤}
 use Rattle.std.specs.List.{AllZip}
 use Rattle.std.specs.Io.KnownBytes.{Appends, Keeps}
-use Rattle.ends.specs.Line.{memory_line, output_line}
+use Rattle.ends.specs.Line.{output_line}
 use Rattle.ends.specs.Sink.{AppendsFront}
 use Rattle.arrays.specs.Shape.{FieldShape}
 use Rattle.table.specs.History.{History}
@@ -12,19 +12,22 @@ use Rattle.job.specs.declared.jobs.Command.TheVariants.{Query}
 use Rattle.job.specs.declared.jobs.Job.{Job}
 use Rattle.job.specs.declared.jobs.Output.{Output}
 use Rattle.job.specs.declared.jobs.QuerySource.{QuerySource}
-use Rattle.table.specs.FaultText.{query_fault_text}
 use Rattle.table.specs.QueryFault.{QueryFault}
 use Rattle.arrow_json.specs.QueryDocumentFault.{QueryBytesFault}
-use Rattle.reports.specs.AddFaultText.{add_fault_text}
 use Rattle.arrowtab.specs.Column.{FailedColumn, IsAllowed, IsColumn, RefusesColumn, column_text, fields_with, history_with}
 use Rattle.arrowtab.specs.Output.{Prints, PrintsNothing}
-use Rattle.reports.specs.Lines.{column_fault_line, unread_line, file_line, query_line, refusal_line}
 use Rattle.arrowtab.specs.Loaded.{IsLoaded, IsStopped}
+use Rattle.arrowtab.specs.TookFault.{IsLineOf}
+use Rattle.reports.specs.declared.run_fault.ColumnFault.{ColumnFault}
+use Rattle.reports.specs.declared.run_fault.ColumnFault.TheVariants as column
+use Rattle.reports.specs.declared.run_fault.ColumnFault.TheVariants.{Unread}
+use Rattle.reports.specs.declared.run_fault.FileFault.{FileFault}
+use Rattle.reports.specs.declared.run_fault.FileFault.TheVariants.{CannotRead, Json, Refused}
+use Rattle.reports.specs.declared.run_fault.RunFault.{RunFault}
+use Rattle.reports.specs.declared.run_fault.RunFault.TheVariants.{NoMemory, OfColumn, OfFile, QueryUnread, QueryRefused}
 use Rattle.reports.specs.FileBatches.{batches_with_fields, table_fields}
 use Rattle.arrow_json.specs.JsonFile.{Reads, BytesFault}
-use Rattle.arrow_json.specs.JsonFaultText.{fault_text}
 use Rattle.arrow_json.specs.JsonTable.{FileData}
-use Rattle.table.specs.declared.add_fault.AddFault.{AddFault}
 use Rattle.table.specs.declared.refusal.Refusal.{Refusal}
 use Rattle.arrow_json.specs.Step.{Step}
 use Rattle.arrow_json.specs.JsonFaultKind.{JsonFaultKind}
@@ -37,9 +40,9 @@ Inputs = List (Option (List ℕ))
 abbrev pub AreRead : Inputs → List FileData → Type 0
 AreRead inputs files = AllZip (λ input file. IfSome input (λ bytes. Reads bytes file)) inputs files
 
--- The text is the job's output for the files of these sources: a legal history has each of its workers add its list of their
+-- What is said holds of the job's table, of the files of these sources: a legal history has each of its workers add its list of their
 -- batches, in order, and behind all of them comes the job's column, where it has one.
-pub record Answers (job : Job) (inputs : Inputs) (text : List ℕ) : Type 0 where
+pub record OfJob (job : Job) (inputs : Inputs) (says : List FieldShape → History → Type 0) : Type 0 where
   pub files : List FileData
   pub read : AreRead inputs files
   pub column : Option FieldShape
@@ -47,7 +50,15 @@ pub record Answers (job : Job) (inputs : Inputs) (text : List ℕ) : Type 0 wher
   pub allowed : IsAllowed column
   pub history : History
   pub loaded : IsLoaded job.workers (map batches_with_fields files) (table_fields files) history
-  pub prints : Prints job.command job.workers (fields_with column (table_fields files)) (history_with column (table_fields files) history) text
+  pub is : says (fields_with column (table_fields files)) (history_with column (table_fields files) history)
+
+-- The text is the job's output.
+abbrev pub Answers : Job → Inputs → List ℕ → Type 0
+Answers job inputs text = OfJob job inputs (λ fields h. Prints job.command job.workers fields h text)
+
+-- The job's query is refused.
+abbrev pub RefusesQuery : Job → Inputs → QueryFault → Type 0
+RefusesQuery job inputs fault = OfJob job inputs (λ fields h. PrintsNothing job.command fields h fault)
 
 -- The sources' bytes are read, and a cause stands for a batch of a file, after those that its worker adds before it.
 pub record Refuses (workers : ℕ) (inputs : Inputs) (file number : ℕ) (refusal : Refusal) : Type 0 where
@@ -61,18 +72,6 @@ pub record FailedQuery (command : Command) (kind : JsonFaultKind) (path : List S
   pub output : Output
   pub asks : command ≡ Query source output
   pub stands : QueryBytesFault (text_of_query source) kind path
-
--- The files of these sources are loaded as for an answer, with the job's column behind all of them, and its query is refused
--- over their table.
-pub record RefusesQuery (job : Job) (inputs : Inputs) (fault : QueryFault) : Type 0 where
-  pub files : List FileData
-  pub read : AreRead inputs files
-  pub column : Option FieldShape
-  pub given : IsColumn (column_text job) column
-  pub allowed : IsAllowed column
-  pub history : History
-  pub loaded : IsLoaded job.workers (map batches_with_fields files) (table_fields files) history
-  pub refused : PrintsNothing job.command (fields_with column (table_fields files)) (history_with column (table_fields files) history) fault
 
 -- ---- a run, where its ends tell their bytes. An end that doesn't tell them is none here.
 
@@ -99,24 +98,30 @@ pub record FailedFile (inputs : Inputs) (file : ℕ) (kind : JsonFaultKind) (pat
   pub of_file : slice_get inputs file ≡ Some input
   pub stands : IfSome input (λ bytes. BytesFault bytes kind path)
 
--- Why a run ends with status 1, and the line that the error sink then took.
-pub data Excuse (job : Job) (inputs : Inputs) (before after : List ℕ) (out_old out_new err_old err_new : ℕ) (old new : Option (List ℕ)) : Type 0 where
-  -- the error sink failed
-  error_failed : err_old < err_new → Excuse job inputs before after out_old out_new err_old err_new old new
-  -- the output can't be this: its line takes no memory
-  no_memory : out_new ≡ out_old → Appends old new memory_line → Excuse job inputs before after out_old out_new err_old err_new old new
-  output_failed : out_old < out_new → Appends old new output_line → Excuse job inputs before after out_old out_new err_old err_new old new
-  source_failed : (file : ℕ) (name : List ℕ) → slice_get (names_of job.names.items) file ≡ Some name → FailedRead before after file
-      → Appends old new (unread_line name) → Excuse job inputs before after out_old out_new err_old err_new old new
-  not_read : (file : ℕ) (name : List ℕ) (kind : JsonFaultKind) (path : List Step) → slice_get (names_of job.names.items) file ≡ Some name → FailedFile inputs file kind path
-      → Appends old new (file_line name kind path) → Excuse job inputs before after out_old out_new err_old err_new old new
-  refused : (file number : ℕ) (name : List ℕ) (refusal : Refusal) → slice_get (names_of job.names.items) file ≡ Some name → Refuses job.workers inputs file number refusal
-      → Appends old new (refusal_line name number refusal) → Excuse job inputs before after out_old out_new err_old err_new old new
-  query_not_read : (kind : JsonFaultKind) (path : List Step) → FailedQuery job.command kind path
-      → Appends old new (query_line (fault_text kind path)) → Excuse job inputs before after out_old out_new err_old err_new old new
-  query_refused : (fault : QueryFault) → RefusesQuery job inputs fault
-      → Appends old new (query_line (query_fault_text fault)) → Excuse job inputs before after out_old out_new err_old err_new old new
-  column_not_read : (kind : JsonFaultKind) (path : List Step) → FailedColumn job kind path
-      → Appends old new (column_fault_line (fault_text kind path)) → Excuse job inputs before after out_old out_new err_old err_new old new
-  column_refused : (fault : AddFault) → RefusesColumn job fault
-      → Appends old new (column_fault_line (add_fault_text fault)) → Excuse job inputs before after out_old out_new err_old err_new old new
+-- ---- why it refuses
+
+-- The cause of a file's fault, for so many workers: one of reading it, or a refusal of one of its batches.
+abbrev pub ExplainsFile : ℕ → Inputs → List ℕ → List ℕ → ℕ → FileFault → Type 0
+ExplainsFile workers inputs before after file CannotRead = FailedRead before after file
+ExplainsFile workers inputs before after file (Json f) = FailedFile inputs file f.kind f.path
+ExplainsFile workers inputs before after file (Refused number refusal) = Refuses workers inputs file number refusal
+
+-- The cause of a fault of a job's column.
+abbrev pub ExplainsColumn : Job → ColumnFault → Type 0
+ExplainsColumn job (Unread f) = FailedColumn job f.kind f.path
+ExplainsColumn job (column.Refused fault) = RefusesColumn job fault
+
+-- The cause of a fault: of a file, of the query's bytes, of the query over the files' table, or of the column.
+abbrev pub Explains : Job → Inputs → List ℕ → List ℕ → RunFault → Type 0
+Explains job inputs before after NoMemory = ⊤
+Explains job inputs before after (OfFile file fault) = ExplainsFile job.workers inputs before after file fault
+Explains job inputs before after (QueryUnread f) = FailedQuery job.command f.kind f.path
+Explains job inputs before after (QueryRefused f) = RefusesQuery job inputs f
+Explains job inputs before after (OfColumn f) = ExplainsColumn job f
+
+-- Why a run ends with status 1, and the line that the error sink then took: that sink failed; the output failed; or a fault has a cause, and the output is untouched.
+abbrev pub Excuse : Job → Inputs → List ℕ → List ℕ → ℕ → ℕ → ℕ → ℕ → Option (List ℕ) → Option (List ℕ) → Type 0
+Excuse job inputs before after out_old out_new err_old err_new old new =
+    (err_old < err_new)
+    ⊎ (((out_old < out_new) × Appends old new output_line)
+    ⊎ ((fault : RunFault) × (line : List ℕ) × Explains job inputs before after fault × IsLineOf (names_of job.names.items) fault line × (out_new ≡ out_old) × Appends old new line))

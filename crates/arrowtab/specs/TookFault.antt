@@ -1,28 +1,19 @@
 -- What the error sink took of a line.
-use Rattle.std.specs.Prelude.{◌≡◌, ℕ, ◌<◌, List, Option, Some, slice_get, ⊤}
+use Rattle.std.specs.Prelude.{◌≡◌, ℕ, ◌<◌, List, [], Option, Some, slice_get, ⊤}
 use Rattle.ends.specs.Line.{TookLine, memory_line}
-use Rattle.arrow_json.specs.JsonFaultText.{fault_text}
-use Rattle.table.specs.FaultText.{query_fault_text}
-use Rattle.reports.specs.FaultLine.{column_fault_text, fault_line}
-use Rattle.reports.specs.Lines.{column_fault_line, query_line}
+use Rattle.reports.specs.FaultLine.{fault_line, line_under}
 use Rattle.reports.specs.declared.run_fault.RunFault.{RunFault}
-use Rattle.reports.specs.declared.run_fault.RunFault.TheVariants.{NoMemory, OfColumn, OfFile, QueryUnread, QueryRefused}
+use Rattle.reports.specs.declared.run_fault.RunFault.TheVariants.{OfFile}
 
 -- The file of a fault, if it is one of a file, is one of so many.
 abbrev pub IsOfFile : ℕ → RunFault → Type 0
-IsOfFile count NoMemory = ⊤
 IsOfFile count (OfFile file fault) = file < count
-IsOfFile count (QueryUnread fault) = ⊤
-IsOfFile count (QueryRefused fault) = ⊤
-IsOfFile count (OfColumn fault) = ⊤
+IsOfFile count fault = ⊤
 
 -- The line of a fault, with the name of its file, if it is one of a file.
 abbrev pub IsLineOf : List (List ℕ) → RunFault → List ℕ → Type 0
-IsLineOf names NoMemory text = text ≡ memory_line
 IsLineOf names (OfFile file fault) text = (name : List ℕ) × (slice_get names file ≡ Some name) × (text ≡ fault_line name fault)
-IsLineOf names (QueryUnread f) text = text ≡ query_line (fault_text f.kind f.path)
-IsLineOf names (QueryRefused f) text = text ≡ query_line (query_fault_text f)
-IsLineOf names (OfColumn f) text = text ≡ column_fault_line (column_fault_text f)
+IsLineOf names fault text = text ≡ line_under [] fault
 
 -- The sink took the line of a fault, which had to be built, or it failed: that memory ran out may be reported in its place.
 pub data TookFault (names : List (List ℕ)) (fault : RunFault) (failed failures : ℕ) (old new : Option (List ℕ)) : Type 0 where

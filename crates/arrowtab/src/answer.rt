@@ -1,8 +1,7 @@
 //! The output of a job, or why there is none.
 ghost use Rattle.std.specs.Prelude.{◌^◌, ◌-◌, ◌<◌, ◌≤◌, All, IfErr, IfOk, length, map, string_bytes};
-ghost use Rattle.arrowtab.specs.Explained.{Explains};
-ghost use Rattle.arrowtab.specs.OrMemory.{OrMemory};
-ghost use Rattle.arrowtab.specs.Run.{Answers};
+ghost use Rattle.reports.specs.OrMemory.{OrMemory};
+ghost use Rattle.arrowtab.specs.Run.{Answers, Explains};
 ghost use Rattle.arrowtab.specs.Wanted.{IsUnprinted, PrintsWanted};
 
 use crate::groups::groups_text;

@@ -3,12 +3,13 @@ ghost use Rattle.std.specs.Prelude.{◌≡◌, ◌≤◌, IfErr, IfOk, map, stri
 ghost use Rattle.table.specs.Answers.{group_shape};
 ghost use Rattle.arrowtab.specs.Output.{shown_as};
 ghost use Rattle.table.specs.Resolved.{named};
+ghost use Rattle.reports.specs.OrMemory.{OrMemory};
 ghost use Rattle.reports.specs.Queried.{ShowsGroups};
 ghost use Rattle.reports.specs.QueryFaults.{IsUnanswered};
 
 use arrays::NoMemory;
 use job::Output;
-use reports::{RunFault, answer_of, group_arrays, group_lines, group_records, placed_query};
+use reports::{RunFault, group_arrays, group_lines, group_records, placed_query};
 use std::alloc::Global;
 use std::thread::Threads;
 use table::{Answer, OpenGate, QueryText, Version};
@@ -26,15 +27,11 @@ pub(crate) fn groups_text<T: Threads + Sync>(
     requires most { pieces ≤ 64 }
     ensures output { IfOk result (λ text. ShowsGroups (shown_as output (named query.now)) (named query.now)
         version.now.fields version.now.history (string_bytes text)) }
-    ensures err { IfErr result (IsUnanswered (named query.now) version.now.fields version.now.history) }
+    ensures err { IfErr result (OrMemory (IsUnanswered (named query.now) version.now.fields version.now.history)) }
 {
-    match placed_query(alloc, query, version) {
-        Ok(placed) => match answer_of(version.answer(threads, alloc, &placed, pieces, &OpenGate)) {
-            Ok(answer) => Ok(answer_text(alloc, query, output, &answer)?),
-            Err(fault) => Err(fault),
-        },
-        Err(fault) => Err(fault),
-    }
+    let placed = placed_query(alloc, query, version)?;
+    let answer = version.answer(threads, alloc, &placed, pieces, &OpenGate)?;
+    Ok(answer_text(alloc, query, output, &answer)?)
 }
 
 /// The text of an answer to a query, in this form.

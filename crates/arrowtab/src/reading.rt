@@ -3,7 +3,7 @@ ghost use Rattle.std.specs.Prelude.{◌≡◌, ◌⊎◌, ◌^◌, ◌-◌, ◌<
 ghost use Rattle.std.specs.List.{AllByRecursion};
 ghost use Rattle.arrow_json.specs.JsonFile.{AreUnder, file_of};
 ghost use Rattle.arrowtab.specs.Explained.{IsFileUnread};
-ghost use Rattle.arrowtab.specs.OrMemory.{OrMemory};
+ghost use Rattle.reports.specs.OrMemory.{OrMemory};
 ghost use Rattle.arrowtab.specs.Run.{AreRead};
 
 use crate::windows::add_files;

@@ -5,7 +5,7 @@ ghost use Rattle.std.specs.List.{Any};
 ghost use mathlib.Core.List.{IsPrefix};
 ghost use Rattle.arrays.specs.Batch.{Batch};
 ghost use Rattle.arrays.specs.Shape.{field_of};
-ghost use Rattle.arrowtab.specs.OrMemory.{OrMemory};
+ghost use Rattle.reports.specs.OrMemory.{OrMemory};
 ghost use Rattle.arrowtab.specs.Worked.{AreAsWide, HaveLoaded, Holds, IsWidenedFirst, StopsLoading};
 ghost use Rattle.loads.specs.Loaded.{batches_of_files, fields_for};
 ghost use Rattle.shared.specs.Balance.{IsOfWorkers};

@@ -2,7 +2,7 @@
 ghost use Rattle.std.specs.Prelude.{IfErr, IfOk, option_map};
 ghost use Rattle.arrays.specs.Shape.{field_of};
 ghost use Rattle.arrowtab.specs.Column.{IsColumn, column_text};
-ghost use Rattle.arrowtab.specs.OrMemory.{OrMemory};
+ghost use Rattle.reports.specs.OrMemory.{OrMemory};
 ghost use Rattle.arrowtab.specs.Wanted.{IsColumnUnread, IsUnread, IsWanted};
 
 use arrays::Field;
@@ -51,9 +51,9 @@ pub(crate) fn wanted_of(alloc: Global, command: &Command) -> Result<Wanted, RunF
         Command::Validate => Ok(Wanted::Nothing),
         Command::Head(count) => Ok(Wanted::Head(*count)),
         Command::Export => Ok(Wanted::Export),
-        Command::Query { query, output } => match read_query_text(alloc, query.text()) {
-            Ok(query) => Ok(Wanted::Groups(query, *output)),
-            Err(fault) => Err(fault),
-        },
+        Command::Query { query, output } => {
+            let read = read_query_text(alloc, query.text())?;
+            Ok(Wanted::Groups(read, *output))
+        }
     }
 }

@@ -1,6 +1,7 @@
 //! Files that are read from their texts, side by side.
 ghost use Rattle.std.specs.Prelude.{IfErr, IfOk, OnOk, length, map};
 ghost use Rattle.std.specs.List.{AllZip};
+ghost use Rattle.reports.specs.OrMemory.{OrMemory};
 ghost use Rattle.reports.specs.Parsed.{AddsFiles, IsParsed, StopsParsing};
 
 use arrays::{File, NoMemory};
@@ -18,7 +19,7 @@ pub(crate) fn add_files<T: Threads + Sync>(
     files: &mut Vec<File>,
 ) -> Result<(), RunFault>
     ensures ok { OnOk result (AddsFiles (map (λ t. t.items) texts.items) files.old.items files.new.items) }
-    ensures err { IfErr result (StopsParsing (map (λ t. t.items) texts.items) (length files.old.items)) }
+    ensures err { IfErr result (OrMemory (StopsParsing (map (λ t. t.items) texts.items) (length files.old.items))) }
 {
     for parsed in parse_all(threads, alloc, texts)? {
         match parsed {

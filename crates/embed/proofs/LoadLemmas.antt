@@ -3,6 +3,7 @@ use Rattle.std.proofs.Common.{◌≡◌, ◌≢◌, ◌∙◌, ℕ, zero, suc, �
 use Rattle.std.proofs.lemmas.Grind.{flat_map-append}
 use Rattle.std.proofs.lemmas.List.{length-map, map-append, take_more}
 use Rattle.std.proofs.lemmas.List.Elements.{All-nil, All-push}
+use Rattle.std.proofs.lemmas.Slice.Zip.{all_zipped_more}
 use Rattle.std.proofs.lemmas.Option.{get_or_from_slice_get, slice_get-get_or, slice_get-map, slice_get_within}
 use Rattle.std.specs.Prelude.{◌⊎◌}
 use Rattle.std.specs.List.{AllZip}
@@ -22,14 +23,15 @@ use Rattle.table.specs.declared.refusal.Refusal.{Refusal}
 use Rattle.table.specs.declared.refusal.Refusal.TheVariants as refusal
 use Rattle.table.specs.declared.refusal.Refusal.TheVariants.{SchemaDiffers}
 use Rattle.reports.proofs.FileLemmas.{AreKept, data_of, file-listed}
-use Rattle.reports.proofs.ParseLemmas.{reported_stands, zip_more}
+use Rattle.reports.proofs.ParseLemmas.{reported_stands}
 use Rattle.reports.specs.FileBatches.{FileBatch, batch_of, batches_with_fields, table_fields}
+use Rattle.reports.specs.OrMemory.{OrMemory}
 use Rattle.reports.specs.Parsed.{IsTextOf}
 use Rattle.reports.specs.declared.run_fault.FileFault.TheVariants.{Json, Refused}
 use Rattle.reports.specs.declared.run_fault.RunFault.{RunFault}
 use Rattle.reports.specs.declared.run_fault.RunFault.TheVariants.{NoMemory, OfFile}
 use Rattle.embed.specs.Loaded.{AddsAll, HoldsFiles, all_batches}
-use Rattle.embed.specs.Refused.{IsBatchRefused, IsStoppedIn, StopsTexts, StopsIn, StopsFiles}
+use Rattle.embed.specs.Refused.{IsStoppedIn, StopsFiles, StopsIn, StopsReading, StopsTexts}
 
 -- ---- texts
 
@@ -50,15 +52,14 @@ texts_more texts files new i text f read at is pushed =
     let below = slice_get_within texts i text at in
     let next : take (i + 1) texts ≡ take i texts ++ text ∷ [] = take_more texts i text below ∙ ap (λ x. take i texts ++ x ∷ []) (get_or_from_slice_get texts i text text at) in
     subst (λ (l : List File). AllZip IsTextOf (take (i + 1) texts) l) (sym pushed)
-    (subst (λ (l : List (List ℕ)). AllZip IsTextOf l (files ++ f ∷ [])) (sym next) (zip_more IsTextOf (take i texts) files text f read is))
+    (subst (λ (l : List (List ℕ)). AllZip IsTextOf l (files ++ f ∷ [])) (sym next) (all_zipped_more IsTextOf (take i texts) files text f read is))
 
 -- the fault of a text behind those that were read
 pub unread_stops : (texts : List (List ℕ)) (files : List File) (i : ℕ) (text : List ℕ) (fault : JsonFault) (reported : RunFault) → AllZip IsTextOf (take i texts) files → slice_get texts i ≡ Some text
-    → Tells (BytesFault text) fault → (reported ≡ NoMemory) ⊎ ((fault.kind ≢ wanting) × (reported ≡ OfFile i (Json fault))) → StopsTexts texts reported
-unread_stops texts files i text fault reported read at tells (inl is) = subst (StopsTexts texts) (sym is) tt
+    → Tells (BytesFault text) fault → (reported ≡ NoMemory) ⊎ ((fault.kind ≢ wanting) × (reported ≡ OfFile i (Json fault))) → OrMemory (StopsReading texts) reported
+unread_stops texts files i text fault reported read at tells (inl is) = inl is
 unread_stops texts files i text fault reported read at tells (inr is) =
-    subst (StopsTexts texts) (sym is.1)
-    (record { text = text; files = data_of files; at = at; read = texts_read (take i texts) files read; stands = reported_stands text fault is.0 tells })
+    inr (i, fault, is.1, record { text = text; files = data_of files; at = at; read = texts_read (take i texts) files read; stands = reported_stands text fault is.0 tells })
 
 -- ---- batches
 
@@ -129,12 +130,14 @@ module _ (batches : List FileBatch) (fields : List FieldShape) (old : History) w
   pub front-stops : (n place : ℕ) (b : Batch) (now : History) (e : Refusal) (reported : RunFault) → slice_get batches n ≡ Some (batch_of b) → AddsFront batches n fields old now
       → ((e ≡ refusal.NoMemory → ⊥) → batch_cause fields now b ≡ Some e)
       → ((e ≡ refusal.NoMemory) × (reported ≡ NoMemory)) ⊎ ((e ≢ refusal.NoMemory) × (reported ≡ OfFile place (Refused n e)))
-      → (before : List FileBatch) → AddsAll before fields old → StopsIn before batches fields place reported
-  front-stops n place b now e reported at so_far stands (inl is) before has = subst (StopsIn before batches fields place) (sym is.1) tt
+      → (before : List FileBatch) → AddsAll before fields old → OrMemory (StopsIn before batches fields place) reported
+  front-stops n place b now e reported at so_far stands (inl is) before has = inl is.1
   front-stops n place b now e reported at so_far stands (inr is) before has =
       let there = so_far before has in
-      subst (StopsIn before batches fields place) (sym is.1) (
-        refl,
+      inr (
+        n,
+        e,
+        is.1,
         record {
           batch = batch_of b;
           at = at;
@@ -175,14 +178,17 @@ module _ (files : List File) (kept : AreKept files) (i : ℕ) (f : File) (at : s
 
   -- .. or one of its batches is refused
   pub files-stop : (fault : RunFault) → StopsIn (all_batches (take i (data_of files))) (map batch_of f.batches) (table_fields (data_of files)) i fault → StopsFiles (data_of files) fault
-  files-stop NoMemory stops = tt
-  files-stop (OfFile file (Refused number e)) stops =
-      subst (λ n. IsBatchRefused (data_of files) n number e) (sym stops.0) (record {
-        one = file_of f;
-        at = data_at;
-        stopped = subst (λ (l : List FileBatch). IsStoppedIn (all_batches (take i (data_of files))) l (table_fields (data_of files)) number e) listed stops.1;
-      })
-  files-stop fault stops = absurd stops
+  files-stop fault stops = (
+    i,
+    stops.0,
+    stops.1,
+    stops.2,
+    record {
+      one = file_of f;
+      at = data_at;
+      stopped = subst (λ (l : List FileBatch). IsStoppedIn (all_batches (take i (data_of files))) l (table_fields (data_of files)) stops.0 stops.1) listed stops.3;
+    },
+  )
 
 -- the file at a place
 pub file_at : (files : List File) (i : ℕ) (f : File) → i < length files → f ≡ get_or files i f → slice_get files i ≡ Some f
@@ -201,6 +207,4 @@ all_loaded texts files seen t v read same shown opened loaded =
 
 -- what stops loading the files of texts
 pub loading_stops : (texts : List (List ℕ)) (files : List File) (fault : RunFault) → AllZip IsTextOf texts files → StopsFiles (data_of files) fault → StopsTexts texts fault
-loading_stops texts files NoMemory read stops = tt
-loading_stops texts files (OfFile file (Refused number e)) read stops = (data_of files, texts_read texts files read, stops)
-loading_stops texts files fault read stops = absurd stops
+loading_stops texts files fault read stops = inr (data_of files, texts_read texts files read, stops)

@@ -1,5 +1,5 @@
 -- What a table answers to the bytes of a query.
-use Rattle.std.specs.Prelude.{◌≡◌, ℕ, List, [], Ok}
+use Rattle.std.specs.Prelude.{◌≡◌, ◌⊎◌, ℕ, List, [], Ok}
 use Rattle.table.specs.Groups.{GroupShape, groups}
 use Rattle.arrays.specs.Batch.{Batch}
 use Rattle.arrays.specs.Shape.{FieldShape}
@@ -12,10 +12,9 @@ use Rattle.table.specs.Contents.{Contents, admitted}
 use Rattle.table.specs.History.{History, rows}
 use Rattle.table.specs.Stored.{stored_fields}
 use Rattle.reports.specs.GroupLines.{column_names}
-use Rattle.reports.specs.Queried.{PrintsGroups, RefusesGroups}
-use Rattle.reports.specs.QueryFaults.{IsUnreadQuery}
+use Rattle.reports.specs.Queried.{PrintsGroups}
+use Rattle.reports.specs.QueryFaults.{IsUnanswered, IsUnreadQuery}
 use Rattle.reports.specs.declared.run_fault.RunFault.{RunFault}
-use Rattle.reports.specs.declared.run_fault.RunFault.TheVariants.{QueryRefused}
 
 -- The text is what `query` prints of the table, for the query that the bytes are read as.
 abbrev pub PrintsAnswer : List ℕ → List FieldShape → History → List ℕ → Type 0
@@ -23,8 +22,7 @@ PrintsAnswer query fields h text = (shape : QueryShape (List ℕ)) × ReadsQuery
 
 -- The fault of the query: of its bytes, or over the table.
 abbrev pub StopsAnswer : List ℕ → List FieldShape → History → RunFault → Type 0
-StopsAnswer query fields h (QueryRefused f) = (shape : QueryShape (List ℕ)) × ReadsQueryText query shape × RefusesGroups shape fields h f
-StopsAnswer query fields h fault = IsUnreadQuery query fault
+StopsAnswer query fields h fault = IsUnreadQuery query fault ⊎ ((shape : QueryShape (List ℕ)) × ReadsQueryText query shape × IsUnanswered shape fields h fault)
 
 -- ---- the answer as a table
 
@@ -32,17 +30,13 @@ StopsAnswer query fields h fault = IsUnreadQuery query fault
 abbrev pub of_batch : Batch → Contents
 of_batch b = admitted (record { fields = stored_fields b.fields; history = []; batches = [] }) 0 b
 
--- The table has the groups that a query by positions asks of the rows, under the names of the query by names.
-pub record IsPlacedAnswer (query : QueryShape (List ℕ)) (placed : QueryShape ℕ) (fields : List FieldShape) (h : History) (t : Contents) : Type 0 where
-  pub found : List GroupShape
-  pub asks : groups fields placed (rows h) ≡ Ok found
-  pub is : t ≡ of_batch (result_batch (column_names query) (result_types fields placed) found)
-
--- The same of a query by names, each of which is one field's.
+-- The table has the groups that a query asks of the rows, each of whose names is one field's, under what the query names them.
 pub record IsNamedAnswer (query : QueryShape (List ℕ)) (fields : List FieldShape) (h : History) (t : Contents) : Type 0 where
   pub placed : QueryShape ℕ
+  pub found : List GroupShape
   pub resolves : resolved fields query ≡ Ok placed
-  pub answers : IsPlacedAnswer query placed fields h t
+  pub asks : groups fields placed (rows h) ≡ Ok found
+  pub is : t ≡ of_batch (result_batch (column_names query) (result_types fields placed) found)
 
 -- The same of the query that the bytes are read as.
 abbrev pub IsAnswerTable : List ℕ → List FieldShape → History → Contents → Type 0

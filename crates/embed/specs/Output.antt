@@ -1,19 +1,18 @@
 -- What is printed of files, and the line of a fault.
-use Rattle.std.specs.Prelude.{◌≡◌, ℕ, List, [], ⊤}
+use Rattle.std.specs.Prelude.{◌≡◌, ◌⊎◌, ℕ, List, [], ⊤}
 use Rattle.std.specs.Fmt.{decimal}
 use Rattle.arrays.specs.Shape.{FieldShape}
 use Rattle.arrow_json.specs.QueryDocument.{ReadsQueryText}
-use Rattle.arrow_json.specs.QueryDocumentFault.{QueryBytesFault}
 use Rattle.table.specs.QueryShape.{QueryShape}
-use Rattle.table.specs.QueryFault.{QueryFault}
 use Rattle.table.specs.History.{History}
 use Rattle.reports.specs.Exported.{exported}
 use Rattle.reports.specs.FaultLine.{line_under}
 use Rattle.reports.specs.Fields.{schema_lines}
-use Rattle.reports.specs.Queried.{PrintsGroups, RefusesGroups}
+use Rattle.reports.specs.Queried.{PrintsGroups}
+use Rattle.reports.specs.QueryFaults.{IsUnanswered, IsUnreadQuery}
 use Rattle.reports.specs.Shown.{stats_text}
 use Rattle.reports.specs.declared.run_fault.RunFault.{RunFault}
-use Rattle.reports.specs.declared.run_fault.RunFault.TheVariants.{OfFile, QueryUnread, QueryRefused}
+use Rattle.reports.specs.declared.run_fault.RunFault.TheVariants.{OfFile}
 use Rattle.embed.specs.Loaded.{HoldsFiles}
 use Rattle.embed.specs.Refused.{StopsTexts}
 
@@ -45,14 +44,12 @@ abbrev pub IsAnswered : List ℕ → List (List ℕ) → List ℕ → Type 0
 IsAnswered query texts text = (shape : QueryShape (List ℕ)) × ReadsQueryText query shape × OfTable texts (λ fields h. PrintsGroups shape fields h text)
 
 -- The query that the bytes are read as is refused over them.
-abbrev pub IsQueryRefused : List ℕ → List (List ℕ) → QueryFault → Type 0
-IsQueryRefused query texts fault = (shape : QueryShape (List ℕ)) × ReadsQueryText query shape × OfTable texts (λ fields h. RefusesGroups shape fields h fault)
+abbrev pub IsQueryRefused : List ℕ → List (List ℕ) → RunFault → Type 0
+IsQueryRefused query texts fault = (shape : QueryShape (List ℕ)) × ReadsQueryText query shape × OfTable texts (λ fields h. IsUnanswered shape fields h fault)
 
--- The fault of a query over files.
+-- The fault of a query over files: of its bytes, over their table, or of the files.
 abbrev pub StopsQuery : List ℕ → List (List ℕ) → RunFault → Type 0
-StopsQuery query texts (QueryUnread f) = QueryBytesFault query f.kind f.path
-StopsQuery query texts (QueryRefused f) = IsQueryRefused query texts f
-StopsQuery query texts fault = StopsTexts texts fault
+StopsQuery query texts fault = IsUnreadQuery query fault ⊎ (IsQueryRefused query texts fault ⊎ StopsTexts texts fault)
 
 -- The name of a fault's file, if it is one of a file: its number, from 0.
 abbrev pub file_name : RunFault → List ℕ

@@ -1,5 +1,5 @@
 -- Why files can't be loaded.
-use Rattle.std.specs.Prelude.{◌≡◌, ◌++◌, ℕ, List, Some, slice_get, take, ⊤}
+use Rattle.std.specs.Prelude.{◌≡◌, ◌⊎◌, ◌++◌, ℕ, List, Some, slice_get, take}
 use Rattle.std.specs.List.{AllZip}
 use Rattle.arrays.specs.Shape.{FieldShape}
 use Rattle.arrow_json.specs.JsonTable.{FileData}
@@ -10,7 +10,7 @@ use Rattle.table.specs.declared.refusal.Refusal.{Refusal}
 use Rattle.reports.specs.FileBatches.{FileBatch, batches_with_fields, table_fields}
 use Rattle.reports.specs.declared.run_fault.FileFault.TheVariants.{Json, Refused}
 use Rattle.reports.specs.declared.run_fault.RunFault.{RunFault}
-use Rattle.reports.specs.declared.run_fault.RunFault.TheVariants.{NoMemory, OfFile}
+use Rattle.reports.specs.declared.run_fault.RunFault.TheVariants.{OfFile}
 use Rattle.embed.specs.Loaded.{added, all_batches}
 
 -- This text is no file, and those before it are.
@@ -28,15 +28,9 @@ pub record IsStoppedIn (before batches : List FileBatch) (fields : List FieldSha
   pub legal : IsLegal fields (added (before ++ take number batches))
   pub stands : handed_cause fields (added (before ++ take number batches)) batch.fields batch.rows ≡ Some refusal
 
--- Want of memory, or a batch of a file that is refused as this says.
-abbrev pub OfBatch : (ℕ → ℕ → Refusal → Type 0) → RunFault → Type 0
-OfBatch says NoMemory = ⊤
-OfBatch says (OfFile file (Refused number refusal)) = says file number refusal
-OfBatch says fault = ⊥
-
--- The fault of adding the batches of the file at a place, after some batches.
+-- A batch of the file at a place is refused, after some batches.
 abbrev pub StopsIn : List FileBatch → List FileBatch → List FieldShape → ℕ → RunFault → Type 0
-StopsIn before batches fields place fault = OfBatch (λ file number refusal. (file ≡ place) × IsStoppedIn before batches fields number refusal) fault
+StopsIn before batches fields place fault = (number : ℕ) × (refusal : Refusal) × (fault ≡ OfFile place (Refused number refusal)) × IsStoppedIn before batches fields number refusal
 
 -- A batch of this file is refused, after those of the files before it.
 pub record IsBatchRefused (files : List FileData) (file number : ℕ) (refusal : Refusal) : Type 0 where
@@ -46,9 +40,12 @@ pub record IsBatchRefused (files : List FileData) (file number : ℕ) (refusal :
 
 -- The fault of loading files.
 abbrev pub StopsFiles : List FileData → RunFault → Type 0
-StopsFiles files fault = OfBatch (IsBatchRefused files) fault
+StopsFiles files fault = (file : ℕ) × (number : ℕ) × (refusal : Refusal) × (fault ≡ OfFile file (Refused number refusal)) × IsBatchRefused files file number refusal
 
--- The fault of reading files from their texts, or of loading them.
+-- The fault of reading files from their texts.
+abbrev pub StopsReading : List (List ℕ) → RunFault → Type 0
+StopsReading texts fault = (file : ℕ) × (f : JsonFault) × (fault ≡ OfFile file (Json f)) × IsUnreadText texts file f
+
+-- The fault of reading them, or of loading the files.
 abbrev pub StopsTexts : List (List ℕ) → RunFault → Type 0
-StopsTexts texts (OfFile file (Json f)) = IsUnreadText texts file f
-StopsTexts texts fault = OfBatch (λ file number refusal. (files : List FileData) × AllZip Reads texts files × IsBatchRefused files file number refusal) fault
+StopsTexts texts fault = StopsReading texts fault ⊎ ((files : List FileData) × AllZip Reads texts files × StopsFiles files fault)

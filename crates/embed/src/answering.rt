@@ -1,16 +1,15 @@
 //! What a query answers, as a table.
-ghost use Rattle.std.specs.Prelude.{◌≡◌, IfErr, IfOk, Ok, true};
-ghost use Rattle.embed.specs.Answer.{IsAnswerTable, IsNamedAnswer, IsPlacedAnswer, StopsAnswer, of_batch};
-ghost use Rattle.table.specs.FirstFault.{fits};
-ghost use Rattle.table.specs.QueryShape.{query_shape};
-ghost use Rattle.table.specs.Resolved.{named, resolved};
-ghost use Rattle.reports.specs.QueryFaults.{IsUnanswered, IsUnplaced};
+ghost use Rattle.std.specs.Prelude.{◌≡◌, IfErr, IfOk};
+ghost use Rattle.embed.specs.Answer.{IsAnswerTable, IsNamedAnswer, StopsAnswer, of_batch};
+ghost use Rattle.table.specs.Resolved.{named};
+ghost use Rattle.reports.specs.OrMemory.{OrMemory};
+ghost use Rattle.reports.specs.QueryFaults.{IsUnanswered};
 
 use arrays::{NoMemory, RecordBatch};
 use reports::{RunFault, column_names, placed_groups, placed_query, read_query_text};
 use results::{result_batch, result_types};
 use std::alloc::Global;
-use table::{Query, QueryText, TableState, Version};
+use table::{QueryText, TableState, Version};
 
 /// The table of the groups that a query of these bytes asks of a version.
 pub(crate) fn answer_table(
@@ -19,7 +18,7 @@ pub(crate) fn answer_table(
     version: &Version,
 ) -> Result<TableState, RunFault>
     ensures ok { IfOk result (IsAnswerTable query_text.now version.now.fields version.now.history) }
-    ensures err { IfErr result (StopsAnswer query_text.now version.now.fields version.now.history) }
+    ensures err { IfErr result (OrMemory (StopsAnswer query_text.now version.now.fields version.now.history)) }
 {
     let read = read_query_text(alloc, query_text)?;
     named_table(alloc, &read, version)
@@ -28,33 +27,14 @@ pub(crate) fn answer_table(
 /// The same for a query that was read.
 fn named_table(alloc: Global, query: &QueryText, version: &Version) -> Result<TableState, RunFault>
     ensures ok { IfOk result (IsNamedAnswer (named query.now) version.now.fields version.now.history) }
-    ensures err { IfErr result (IsUnanswered (named query.now) version.now.fields version.now.history) }
+    ensures err { IfErr result (OrMemory (IsUnanswered (named query.now) version.now.fields version.now.history)) }
 {
     let placed = placed_query(alloc, query, version)?;
-    placed_table(alloc, query, &placed, version)
-}
-
-/// The same for its query by positions.
-fn placed_table(
-    alloc: Global,
-    query: &QueryText,
-    placed: &Query,
-    version: &Version,
-) -> Result<TableState, RunFault>
-    requires resolved { resolved version.now.fields (named query.now) ≡ Ok (query_shape placed.now) }
-    requires fits { fits version.now.fields (query_shape placed.now) ≡ true }
-    ensures ok { IfOk result (IsPlacedAnswer (named query.now) (query_shape placed.now) version.now.fields version.now.history) }
-    ensures err { IfErr result (IsUnplaced (query_shape placed.now) version.now.fields version.now.history) }
-{
-    match placed_groups(alloc, placed, version) {
-        Ok(answer) => {
-            let names = column_names(alloc, query)?;
-            let types = result_types(alloc, version.schema(), placed)?;
-            let batch = result_batch(alloc, &names, &types, &answer)?;
-            Ok(table_of(alloc, &batch)?)
-        }
-        Err(fault) => Err(fault),
-    }
+    let answer = placed_groups(alloc, &placed, version)?;
+    let names = column_names(alloc, query)?;
+    let types = result_types(alloc, version.schema(), &placed)?;
+    let batch = result_batch(alloc, &names, &types, &answer)?;
+    Ok(table_of(alloc, &batch)?)
 }
 
 /// A table of one batch, of worker 0. Nothing stands against the batch of an answer but want of memory.

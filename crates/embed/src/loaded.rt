@@ -9,6 +9,7 @@ ghost use Rattle.reports.specs.Fields.{schema_lines};
 ghost use Rattle.reports.specs.Queried.{PrintsGroups};
 ghost use Rattle.reports.specs.QueryFaults.{IsUnanswered};
 ghost use Rattle.reports.specs.Shown.{stats_text};
+ghost use Rattle.reports.specs.OrMemory.{OrMemory};
 
 use crate::loading::load_files;
 use crate::reading::read_files;
@@ -28,7 +29,7 @@ impl Loaded {
     /// The table of the files of these texts.
     pub fn open(alloc: Global, texts: &[&[u8]]) -> Result<Loaded, RunFault>
         ensures ok { IfOk result (λ t. HoldsFiles (map (λ t. t.now) texts.now) t.state.fields t.state.history) }
-        ensures err { IfErr result (StopsTexts (map (λ t. t.now) texts.now)) }
+        ensures err { IfErr result (OrMemory (StopsTexts (map (λ t. t.now) texts.now))) }
     {
         let files = read_files(alloc, texts)?;
         let state = load_files(alloc, &files)?;
@@ -80,7 +81,7 @@ impl Loaded {
     /// What `query` prints of it: a line for each group.
     pub fn query(&self, alloc: Global, query_text: &[u8]) -> Result<String, RunFault>
         ensures ok { IfOk result (λ text. PrintsAnswer query_text.now self.now.state.fields self.now.state.history (string_bytes text)) }
-        ensures err { IfErr result (StopsAnswer query_text.now self.now.state.fields self.now.state.history) }
+        ensures err { IfErr result (OrMemory (StopsAnswer query_text.now self.now.state.fields self.now.state.history)) }
     {
         self.snapshot()?.query(alloc, query_text)
     }
@@ -88,7 +89,7 @@ impl Loaded {
     /// The same as a table of its own, as [`Snapshot::answer`] gives.
     pub fn answer(&self, alloc: Global, query_text: &[u8]) -> Result<Loaded, RunFault>
         ensures ok { IfOk result (λ t. IsAnswerTable query_text.now self.now.state.fields self.now.state.history t.state) }
-        ensures err { IfErr result (StopsAnswer query_text.now self.now.state.fields self.now.state.history) }
+        ensures err { IfErr result (OrMemory (StopsAnswer query_text.now self.now.state.fields self.now.state.history)) }
     {
         self.snapshot()?.answer(alloc, query_text)
     }
@@ -96,7 +97,7 @@ impl Loaded {
     /// The same for a query that was read.
     pub(crate) fn groups(&self, alloc: Global, query: &QueryText) -> Result<String, RunFault>
         ensures ok { IfOk result (λ text. PrintsGroups (named query.now) self.now.state.fields self.now.state.history (string_bytes text)) }
-        ensures err { IfErr result (IsUnanswered (named query.now) self.now.state.fields self.now.state.history) }
+        ensures err { IfErr result (OrMemory (IsUnanswered (named query.now) self.now.state.fields self.now.state.history)) }
     {
         self.snapshot()?.groups(alloc, query)
     }

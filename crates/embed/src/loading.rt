@@ -7,6 +7,7 @@ ghost use Rattle.embed.specs.Refused.{StopsIn, StopsFiles};
 ghost use Rattle.arrow_json.specs.JsonFile.{AreUnder, file_of};
 ghost use Rattle.reports.specs.FileBatches.{FileBatch, batch_of, table_fields};
 ghost use Rattle.table.specs.Stored.{stored_fields};
+ghost use Rattle.reports.specs.OrMemory.{OrMemory};
 
 use arrays::{File, NoMemory, RecordBatch, Schema};
 use reports::{FileFault, RunFault};
@@ -19,7 +20,7 @@ pub(crate) fn load_files(alloc: Global, files: &[File]) -> Result<TableState, Ru
     requires { AllByRecursion (λ f. AreUnder f.fields f.batches) files.now }
     ensures fields { IfOk result (λ t. t.fields ≡ table_fields (map file_of files.now)) }
     ensures loaded { IfOk result (λ t. AddsAll (all_batches (map file_of files.now)) t.fields t.history) }
-    ensures err { IfErr result (StopsFiles (map file_of files.now)) }
+    ensures err { IfErr result (OrMemory (StopsFiles (map file_of files.now))) }
 {
     let schema = first_schema(alloc, files)?;
     let mut table = TableState::new(alloc, schema)?;
@@ -52,7 +53,7 @@ fn add_batches(
     ensures loaded { (before : List FileBatch) → AddsAll before table.old.fields table.old.history
         → OnOk result (AddsAll (before ++ map batch_of (map arc_value batches.now)) table.old.fields table.new.history) }
     ensures err { (before : List FileBatch) → AddsAll before table.old.fields table.old.history
-        → IfErr result (StopsIn before (map batch_of (map arc_value batches.now)) table.old.fields place) }
+        → IfErr result (OrMemory (StopsIn before (map batch_of (map arc_value batches.now)) table.old.fields place)) }
 {
     for number in 0..batches.len() {
         match table.admit(0, &batches[number]) {

@@ -1,8 +1,9 @@
 //! Files that are read from their bytes, one after the other.
 ghost use Rattle.std.specs.Prelude.{IfErr, IfOk, map};
 ghost use Rattle.std.specs.List.{AllZip};
-ghost use Rattle.embed.specs.Refused.{StopsTexts};
+ghost use Rattle.embed.specs.Refused.{StopsReading};
 ghost use Rattle.reports.specs.Parsed.{IsTextOf};
+ghost use Rattle.reports.specs.OrMemory.{OrMemory};
 
 use arrays::File;
 use arrow_json::read_file;
@@ -12,7 +13,7 @@ use std::alloc::Global;
 /// The file of each text, in order, or the fault of the first text that is none.
 pub(crate) fn read_files(alloc: Global, texts: &[&[u8]]) -> Result<Vec<File>, RunFault>
     ensures ok { IfOk result (λ files. AllZip IsTextOf (map (λ t. t.now) texts.now) files.items) }
-    ensures err { IfErr result (StopsTexts (map (λ t. t.now) texts.now)) }
+    ensures err { IfErr result (OrMemory (StopsReading (map (λ t. t.now) texts.now))) }
 {
     let mut files = Vec::new(alloc);
     for place in 0..texts.len() {

@@ -7,6 +7,7 @@ ghost use Rattle.reports.specs.Fields.{schema_lines};
 ghost use Rattle.reports.specs.Queried.{PrintsGroups};
 ghost use Rattle.reports.specs.QueryFaults.{IsUnanswered};
 ghost use Rattle.reports.specs.Shown.{stats_text};
+ghost use Rattle.reports.specs.OrMemory.{OrMemory};
 
 use crate::answering::answer_table;
 use crate::loaded::Loaded;
@@ -60,7 +61,7 @@ impl Snapshot {
     /// What `query` prints of it: a line for each group.
     pub fn query(&self, alloc: Global, query_text: &[u8]) -> Result<String, RunFault>
         ensures ok { IfOk result (λ text. PrintsAnswer query_text.now self.now.version.fields self.now.version.history (string_bytes text)) }
-        ensures err { IfErr result (StopsAnswer query_text.now self.now.version.fields self.now.version.history) }
+        ensures err { IfErr result (OrMemory (StopsAnswer query_text.now self.now.version.fields self.now.version.history)) }
     {
         let read = read_query_text(alloc, query_text)?;
         self.groups(alloc, &read)
@@ -70,7 +71,7 @@ impl Snapshot {
     /// [`results`] gives.
     pub fn answer(&self, alloc: Global, query_text: &[u8]) -> Result<Loaded, RunFault>
         ensures ok { IfOk result (λ t. IsAnswerTable query_text.now self.now.version.fields self.now.version.history t.state) }
-        ensures err { IfErr result (StopsAnswer query_text.now self.now.version.fields self.now.version.history) }
+        ensures err { IfErr result (OrMemory (StopsAnswer query_text.now self.now.version.fields self.now.version.history)) }
     {
         Ok(Loaded::of(answer_table(alloc, query_text, &self.version)?))
     }
@@ -78,7 +79,7 @@ impl Snapshot {
     /// The same for a query that was read.
     pub(crate) fn groups(&self, alloc: Global, query: &QueryText) -> Result<String, RunFault>
         ensures ok { IfOk result (λ text. PrintsGroups (named query.now) self.now.version.fields self.now.version.history (string_bytes text)) }
-        ensures err { IfErr result (IsUnanswered (named query.now) self.now.version.fields self.now.version.history) }
+        ensures err { IfErr result (OrMemory (IsUnanswered (named query.now) self.now.version.fields self.now.version.history)) }
     {
         groups_text(alloc, query, &self.version)
     }

@@ -1,5 +1,5 @@
 -- One worker's table, as the library's.
-use Rattle.std.proofs.Common.{zero, suc, ◌%◌, take, option_map, ◌≡◌, ◌∙◌, ℕ, ◌<◌, List, [], ◌∷◌, ◌++◌, map, None, Some, IfSome, Option, ap, sym, refl, subst, arith}
+use Rattle.std.proofs.Common.{zero, suc, ◌%◌, take, option_map, ◌≡◌, ◌∙◌, ℕ, ◌<◌, List, [], ◌∷◌, ◌++◌, map, None, Some, IfSome, Option, ap, inl, inr, sym, refl, subst, arith}
 use Rattle.std.proofs.lemmas.Option.{slice_get-map}
 use Rattle.std.specs.Prelude.{All}
 use Rattle.std.specs.List.{AllByRecursion, AllZip, flat_map}
@@ -18,19 +18,17 @@ use Rattle.arrowtab.specs.History.{History}
 use Rattle.arrowtab.specs.Plan.{planned}
 use Rattle.arrowtab.proofs.ParseLemmas.{zip_map}
 use Rattle.arrowtab.specs.FileBatches.{FileBatch, batches_with_fields, table_fields, batch_tables}
-use Rattle.arrowtab.specs.QueryFault.{QueryFault}
 use Rattle.arrowtab.specs.Refusal.{Refusal}
-use Rattle.arrowtab.specs.FileFaults.{Json, Refused}
 use Rattle.arrowtab.specs.RunFault.{RunFault}
-use Rattle.arrowtab.specs.RunFaults.{NoMemory, OfFile, QueryUnread, QueryRefused}
+use Rattle.arrowtab.specs.Queried.{RefusesGroups}
 use Rattle.embed.specs.Output.{AreLoadable, IsAnswered, IsExport, IsQueryRefused, IsSchema, IsStats, OfTable, StopsQuery}
 use Rattle.embed.specs.Refused.{IsBatchRefused, StopsTexts}
 use Rattle.embed.specs.Loaded.{AddsAll, added, all_batches}
 use Rattle.arrowtab.specs.Column.{IsColumn, column_text}
-use Rattle.arrowtab.specs.Explained.{Explains}
 use Rattle.arrowtab.specs.Loaded.{IsLoaded, IsStopped, added_by}
 use Rattle.arrowtab.specs.Output.{Prints, PrintsNothing}
-use Rattle.arrowtab.specs.Run.{Answers, AreRead, Refuses, RefusesQuery}
+use Rattle.arrowtab.specs.Run.{Answers, AreRead, Explains, OfJob, Refuses}
+use Rattle.arrowtab.specs.OrMemory.{OrMemory}
 use Rattle.arrowtab.proofs.PlanLemmas.{all_from, all_split, by_recursion, planned_alone}
 
 module _ (fields : List FieldShape) where
@@ -70,23 +68,31 @@ loaded_alone files fields h is = record {
   legal = is.legal;
 }
 
+inputs_read : (texts : List (List ℕ)) (files : List FileData) → AllZip Reads texts files → AreRead (map (λ t. Some t) texts) files
+inputs_read texts files read = zip_map (λ t. Some t) (λ (input : Option (List ℕ)) (file : FileData). IfSome input (λ bytes. Reads bytes file)) texts files read
+
+-- what is said of the library's table is said of one worker's
+of_alone : (job : Job) (texts : List (List ℕ)) (says said : List FieldShape → History → Type 0) → job.workers ≡ 1 → column_text job ≡ None → ((fields : List FieldShape) (h : History) → says fields h → said fields h)
+    → OfTable texts says → OfJob job (map (λ t. Some t) texts) said
+of_alone job texts says said one bare means is =
+    let files = is.holds.files in
+    let opened = is.holds.opened in
+    record {
+      files = files;
+      read = inputs_read texts files is.holds.read;
+      column = None;
+      given = subst (λ c. IsColumn c None) (sym bare) tt;
+      allowed = tt;
+      history = is.history;
+      loaded = subst (λ n. IsLoaded n (map batches_with_fields files) (table_fields files) is.history) (sym one)
+          (subst (λ (fs : List FieldShape). IsLoaded 1 (map batches_with_fields files) fs is.history) opened (loaded_alone files is.fields is.history is.holds.loaded));
+      is = subst (λ (fs : List FieldShape). said fs is.history) opened (means is.fields is.history is.is);
+    }
+
 module _ (job : Job) (texts : List (List ℕ)) (text : List ℕ) (one : job.workers ≡ 1) (bare : column_text job ≡ None) where
   answers_alone : (says : List FieldShape → History → Type 0) → ((fields : List FieldShape) (h : History) → says fields h → Prints job.command 1 fields h text) → OfTable texts says → Answers job (map (λ t. Some t) texts) text
   answers_alone says prints is =
-      let files = is.holds.files in
-      let opened = is.holds.opened in
-      record {
-        files = files;
-        read = zip_map (λ t. Some t) (λ (input : Option (List ℕ)) (file : FileData). IfSome input (λ bytes. Reads bytes file)) texts files is.holds.read;
-        column = None;
-        given = subst (λ c. IsColumn c None) (sym bare) tt;
-        allowed = tt;
-        history = is.history;
-        loaded = subst (λ n. IsLoaded n (map batches_with_fields files) (table_fields files) is.history) (sym one)
-            (subst (λ (fs : List FieldShape). IsLoaded 1 (map batches_with_fields files) fs is.history) opened (loaded_alone files is.fields is.history is.holds.loaded));
-        prints = subst (λ n. Prints job.command n (table_fields files) is.history text) (sym one)
-            (subst (λ (fs : List FieldShape). Prints job.command 1 fs is.history text) opened (prints is.fields is.history is.is));
-      }
+      of_alone job texts says (λ fields h. Prints job.command job.workers fields h text) one bare (λ fields h said. subst (λ n. Prints job.command n fields h text) (sym one) (prints fields h said)) is
 
   pub stats_alone : job.command ≡ command.Stats → IsStats texts text → Answers job (map (λ t. Some t) texts) text
   stats_alone same is = answers_alone _ (λ fields h prints. subst (λ (c : Command). Prints c 1 fields h text) (sym same) prints) is
@@ -136,40 +142,33 @@ stopped_alone files file number e is =
     }
 
 module _ (job : Job) (texts : List (List ℕ)) (before after : List ℕ) (one : job.workers ≡ 1) where
-  inputs_read : (files : List FileData) → AllZip Reads texts files → AreRead (map (λ t. Some t) texts) files
-  inputs_read files read = zip_map (λ t. Some t) (λ (input : Option (List ℕ)) (file : FileData). IfSome input (λ bytes. Reads bytes file)) texts files read
+  pub stops_alone : (fault : RunFault) → OrMemory (StopsTexts texts) fault → Explains job (map (λ t. Some t) texts) before after fault
+  stops_alone fault (inl is) = subst (Explains job (map (λ t. Some t) texts) before after) (sym is) tt
+  stops_alone fault (inr (inl is)) =
+      let text = is.3 in
+      subst (Explains job (map (λ t. Some t) texts) before after) (sym is.2) (record {
+        input = Some text.text;
+        of_file = slice_get-map (λ t. Some t) texts is.0 ∙ ap (option_map (λ t. Some t)) text.at;
+        stands = text.stands;
+      })
+  stops_alone fault (inr (inr is)) =
+      let batch = is.2 in
+      subst (Explains job (map (λ t. Some t) texts) before after) (sym batch.3)
+      (subst (λ n. Refuses n (map (λ t. Some t) texts) batch.0 batch.1 batch.2) (sym one)
+      (record { files = is.0; read = inputs_read texts is.0 is.1; stopped = stopped_alone is.0 batch.0 batch.1 batch.2 batch.4 }))
 
-  pub stops_alone : (fault : RunFault) → StopsTexts texts fault → Explains job (map (λ t. Some t) texts) before after fault
-  stops_alone NoMemory is = tt
-  stops_alone (OfFile file (Json f)) is = record {
-    input = Some is.text;
-    of_file = slice_get-map (λ t. Some t) texts file ∙ ap (option_map (λ t. Some t)) is.at;
-    stands = is.stands;
-  }
-  stops_alone (OfFile file (Refused number e)) is =
-      subst (λ n. Refuses n (map (λ t. Some t) texts) file number e) (sym one)
-      (record { files = is.0; read = inputs_read is.0 is.1; stopped = stopped_alone is.0 file number e is.2 })
-  stops_alone fault is = absurd is
-
-  refused_alone : (source : QuerySource) → column_text job ≡ None → (form : Output) → job.command ≡ command.Query source form → (fault : QueryFault) → IsQueryRefused (text_of_query source) texts fault → RefusesQuery job (map (λ t. Some t) texts) fault
+  refused_alone : (source : QuerySource) → column_text job ≡ None → (form : Output) → job.command ≡ command.Query source form → (fault : RunFault) → IsQueryRefused (text_of_query source) texts fault → Explains job (map (λ t. Some t) texts) before after fault
   refused_alone source bare form same fault is =
       let table = is.2 in
-      let files = table.holds.files in
-      let opened = table.holds.opened in
-      record {
-        files = files;
-        read = inputs_read files table.holds.read;
-        column = None;
-        given = subst (λ c. IsColumn c None) (sym bare) tt;
-        allowed = tt;
-        history = table.history;
-        loaded = subst (λ n. IsLoaded n (map batches_with_fields files) (table_fields files) table.history) (sym one)
-            (subst (λ (fs : List FieldShape). IsLoaded 1 (map batches_with_fields files) fs table.history) opened (loaded_alone files table.fields table.history table.holds.loaded));
-        refused = subst (λ (fs : List FieldShape). PrintsNothing job.command fs table.history fault) opened
-            (record { source = source; output = form; asks = same; query = is.0; reads = is.1; refuses = table.is });
-      }
+      let refused = table.is in
+      subst (Explains job (map (λ t. Some t) texts) before after) (sym refused.1)
+      (of_alone job texts (λ fields h. RefusesGroups is.0 fields h refused.0) (λ fields h. PrintsNothing job.command fields h refused.0) one bare
+      (λ fields h refuses. record { source = source; output = form; asks = same; query = is.0; reads = is.1; refuses = refuses })
+      (record { fields = table.fields; history = table.history; holds = table.holds; is = refused.2 }))
 
-  pub query_stops_alone : (source : QuerySource) → column_text job ≡ None → (form : Output) → job.command ≡ command.Query source form → (fault : RunFault) → StopsQuery (text_of_query source) texts fault → Explains job (map (λ t. Some t) texts) before after fault
-  query_stops_alone source bare form same (QueryUnread f) is = record { source = source; output = form; asks = same; stands = is }
-  query_stops_alone source bare form same (QueryRefused f) is = refused_alone source bare form same f is
-  query_stops_alone source bare form same fault is = stops_alone fault is
+  pub query_stops_alone : (source : QuerySource) → column_text job ≡ None → (form : Output) → job.command ≡ command.Query source form → (fault : RunFault) → OrMemory (StopsQuery (text_of_query source) texts) fault → Explains job (map (λ t. Some t) texts) before after fault
+  query_stops_alone source bare form same fault (inl is) = stops_alone fault (inl is)
+  query_stops_alone source bare form same fault (inr (inl is)) =
+      subst (Explains job (map (λ t. Some t) texts) before after) (sym is.1) (record { source = source; output = form; asks = same; stands = is.2 })
+  query_stops_alone source bare form same fault (inr (inr (inl is))) = refused_alone source bare form same fault is
+  query_stops_alone source bare form same fault (inr (inr (inr is))) = stops_alone fault (inr is)

@@ -1,8 +1,8 @@
 //! That the library gives what the program prints.
 ghost use Rattle.std.specs.Prelude.{◌≡◌, ℕ, List, [], None, Some, map};
 ghost use Rattle.arrowtab.specs.Column.{column_text};
-ghost use Rattle.arrowtab.specs.Explained.{Explains};
-ghost use Rattle.arrowtab.specs.Run.{Answers};
+ghost use Rattle.arrowtab.specs.OrMemory.{OrMemory};
+ghost use Rattle.arrowtab.specs.Run.{Answers, Explains};
 ghost use Rattle.embed.specs.Output.{AreLoadable, IsAnswered, IsExport, IsSchema, IsStats, StopsQuery};
 ghost use Rattle.embed.specs.Refused.{StopsTexts};
 ghost use Rattle.job.specs.Jobs.{text_of_query};
@@ -28,8 +28,8 @@ pub fn the_library_gives_what_one_worker_prints()
         → (source : QuerySource) → job.command ≡ command.Query source output.Lines → IsAnswered (text_of_query source) texts text
         → Answers job (map (λ t. Some t) texts) text }
     ensures err { (job : Job) (texts : List (List ℕ)) (before after : List ℕ) → job.workers ≡ 1
-        → (fault : RunFault) → StopsTexts texts fault → Explains job (map (λ t. Some t) texts) before after fault }
+        → (fault : RunFault) → OrMemory (StopsTexts texts) fault → Explains job (map (λ t. Some t) texts) before after fault }
     ensures query_err { (job : Job) (texts : List (List ℕ)) (before after : List ℕ) → job.workers ≡ 1
         → (source : QuerySource) → column_text job ≡ None → (form : Output) → job.command ≡ command.Query source form
-        → (fault : RunFault) → StopsQuery (text_of_query source) texts fault → Explains job (map (λ t. Some t) texts) before after fault }
+        → (fault : RunFault) → OrMemory (StopsQuery (text_of_query source) texts) fault → Explains job (map (λ t. Some t) texts) before after fault }
 {}

@@ -1,90 +1,73 @@
--- Pieces in a row, with a byte between each two.
-use Rattle.std.proofs.Common.{◌≡◌, ◌==◌, ◌∙◌, ℕ, true, false, ◌+◌, ◌<◌, ◌≤◌, List, [], ◌∷◌, ◌++◌, length, map, take, get_or, Option, ap, sym, refl, append_assoc, arith}
-use Rattle.std.proofs.lemmas.Bool.{false≢true}
+-- Texts in a row, with a byte between each two.
+use Rattle.std.proofs.Common.{◌≡◌, ◌==◌, ◌∙◌, ℕ, zero, suc, Bool, true, false, cond, not, ◌||◌, ◌+◌, ◌<◌, List, [], ◌∷◌, ◌++◌, length, map, take, get_or, ap, sym, refl, append_assoc, arith}
 use Rattle.std.proofs.lemmas.Bool.Decides.{nat_tests}
-use Rattle.std.proofs.lemmas.Grind.{common_steps}
-use Rattle.std.proofs.lemmas.List.{append-nil, length-map, map-append, take_more}
+use Rattle.std.proofs.lemmas.List.{append-nil, map-append, take_more}
+use Rattle.std.proofs.lemmas.Simd.{map-map}
+use Rattle.std.specs.Prelude.{nat_lt}
 use Rattle.std.specs.List.{join_with_byte}
-use Rattle.arrays.specs.Item.{Item}
-use Rattle.table.specs.Scalars.{item_of_scalar}
-use Rattle.table.specs.Scalar.{Scalar}
+use Rattle.reports.specs.GroupLines.{joined_behind}
 
--- two lists of pieces, one behind the other
-joined : (c : ℕ) (xs ys : List (List ℕ)) → 0 < length xs → 0 < length ys → join_with_byte c (xs ++ ys) ≡ join_with_byte c xs ++ c ∷ join_with_byte c ys
-joined c [] ys some more = absurd (omega (arith, some))
-joined c (x ∷ xs) [] some more = absurd (omega (arith, more))
-joined c (x ∷ []) (y ∷ ys) some more = refl
-joined c (x ∷ z ∷ xs) (y ∷ ys) some more =
-    ap (λ t. x ++ c ∷ t) (joined c (z ∷ xs) (y ∷ ys) (omega arith) more)
-    ∙ sym (append_assoc x (c ∷ join_with_byte c (z ∷ xs)) (c ∷ join_with_byte c (y ∷ ys)))
+-- some came before
+abbrev pub has_some : {A : Type 0} → List A → Bool
+has_some [] = false
+has_some (x ∷ xs) = true
 
--- the pieces of values
-abbrev pub spelled : {A : Type 0} → (A → List ℕ) → ℕ → List A → List ℕ
-spelled spell c xs = join_with_byte c (map spell xs)
+pub some_by : {A B : Type 0} (f : A → B) (xs : List A) (n : ℕ) → n ≡ length xs → not (n == 0) ≡ has_some (map f xs)
+some_by f [] n long = ap (λ k. not (k == 0)) long
+some_by f (x ∷ xs) n long = let other : (n == 0) ≡ false = grind (arith, nat_tests) in ap not other
 
--- values and values, of which both have some
-pub both : {A : Type 0} (spell : A → List ℕ) (c : ℕ) (xs ys : List A) → 0 < length xs → 0 < length ys → spelled spell c (xs ++ ys) ≡ (spelled spell c xs ++ c ∷ []) ++ spelled spell c ys
-both spell c xs ys some more =
-    ap (join_with_byte c) (map-append spell xs ys)
-    ∙ joined c (map spell xs) (map spell ys) (omega (arith, some, length-map xs spell)) (omega (arith, more, length-map ys spell))
-    ∙ sym (append_assoc (spelled spell c xs) (c ∷ []) (spelled spell c ys))
+some_front : {A B : Type 0} (f : A → B) (xs : List A) (i : ℕ) → i < length xs → has_some (map f (take i xs)) ≡ nat_lt 0 i
+some_front f [] i below = absurd (omega (arith, below))
+some_front f (x ∷ xs) zero below = refl
+some_front f (x ∷ xs) (suc i) below = grind (arith, nat_tests)
 
--- .. or one has none
-pub either : {A : Type 0} (spell : A → List ℕ) (c : ℕ) (xs ys : List A) → (0 < length xs → length ys ≤ 0) → spelled spell c (xs ++ ys) ≡ spelled spell c xs ++ spelled spell c ys
-either spell c [] ys none = refl
-either spell c (x ∷ xs) [] none = ap (spelled spell c) (append-nil (x ∷ xs)) ∙ sym (append-nil (spelled spell c (x ∷ xs)))
-either spell c (x ∷ xs) (y ∷ ys) none = absurd (omega (arith, none (omega arith)))
+-- texts behind texts
+pub joined_behind-append : (c : ℕ) (b : Bool) (xs ys : List (List ℕ)) → joined_behind c b (xs ++ ys) ≡ joined_behind c b xs ++ joined_behind c (b || has_some xs) ys
+joined_behind-append c true [] ys = refl
+joined_behind-append c false [] ys = refl
+joined_behind-append c true (x ∷ xs) ys =
+    ap (λ t. (c ∷ []) ++ (x ++ t)) (joined_behind-append c true xs ys) ∙ ap (λ t. (c ∷ []) ++ t) (sym (append_assoc x (joined_behind c true xs) (joined_behind c true ys)))
+joined_behind-append c false (x ∷ xs) ys = ap (λ t. x ++ t) (joined_behind-append c true xs ys) ∙ sym (append_assoc x (joined_behind c true xs) (joined_behind c true ys))
+
+-- .. and behind nothing
+later : (c : ℕ) (x : List ℕ) (xs : List (List ℕ)) → joined_behind c true (x ∷ xs) ≡ c ∷ join_with_byte c (x ∷ xs)
+later c x [] = ap (λ t. c ∷ t) (append-nil x)
+later c x (y ∷ xs) = ap (λ t. c ∷ (x ++ t)) (later c y xs)
+
+pub joined : (c : ℕ) (xs : List (List ℕ)) → joined_behind c false xs ≡ join_with_byte c xs
+joined c [] = refl
+joined c (x ∷ []) = append-nil x
+joined c (x ∷ y ∷ xs) = ap (λ t. x ++ t) (later c y xs)
 
 -- ---- one value more
 
-length-front : {A : Type 0} (n : ℕ) (xs : List A) → n < length xs → length (take n xs) ≡ n
-length-front n xs within = grind (arith, common_steps)
+module _ {A : Type 0} (spell : A → List ℕ) (c : ℕ) (xs : List A) (i : ℕ) (x : A) (below : i < length xs) (is : x ≡ get_or xs i x) (old so_far new : List ℕ) where
+  pub one_more : (b : Bool) → so_far ≡ old ++ joined_behind c b (map spell (take i xs)) → new ≡ (so_far ++ cond (b || nat_lt 0 i) (c ∷ []) []) ++ spell x
+      → new ≡ old ++ joined_behind c b (map spell (take (i + 1) xs))
+  one_more b before added =
+      let front = map spell (take i xs) in
+      let between : Bool → List ℕ = λ e. cond (b || e) (c ∷ []) [] in
+      let next : map spell (take (i + 1) xs) ≡ front ++ spell x ∷ [] =
+      ap (map spell) (take_more xs i x below ∙ ap (λ y. take i xs ++ y ∷ []) (sym is)) ∙ map-append spell (take i xs) (x ∷ []) in
+      added ∙ ap (λ t. (t ++ between (nat_lt 0 i)) ++ spell x) before
+      ∙ ap (λ e. ((old ++ joined_behind c b front) ++ between e) ++ spell x) (sym (some_front spell xs i below))
+      ∙ ap (λ t. ((old ++ joined_behind c b front) ++ between (has_some front)) ++ t) (sym (append-nil (spell x)))
+      ∙ append_assoc (old ++ joined_behind c b front) (between (has_some front)) (spell x ++ [])
+      ∙ append_assoc old (joined_behind c b front) (between (has_some front) ++ (spell x ++ []))
+      ∙ ap (λ t. old ++ t) (sym (ap (joined_behind c b) next ∙ joined_behind-append c b front (spell x ∷ [])))
 
-module _ {A : Type 0} (spell : A → List ℕ) (c : ℕ) (xs : List A) (i : ℕ) (x : A) (below : i < length xs) (is : x ≡ get_or xs i x) (old so_far new : List ℕ) (before : so_far ≡ old ++ spelled spell c (take i xs)) where
-  next : take (i + 1) xs ≡ take i xs ++ x ∷ []
-  next = take_more xs i x below ∙ ap (λ y. take i xs ++ y ∷ []) (sym is)
+  pub joined_more : so_far ≡ old ++ join_with_byte c (map spell (take i xs)) → new ≡ (so_far ++ cond (nat_lt 0 i) (c ∷ []) []) ++ spell x → new ≡ old ++ join_with_byte c (map spell (take (i + 1) xs))
+  joined_more before added =
+      one_more false (before ∙ ap (λ t. old ++ t) (sym (joined c (map spell (take i xs))))) added ∙ ap (λ t. old ++ t) (joined c (map spell (take (i + 1) xs)))
 
-  pub first_more : i ≤ 0 → new ≡ so_far ++ spell x → new ≡ old ++ spelled spell c (take (i + 1) xs)
-  first_more none added =
-      added ∙ ap (λ t. t ++ spell x) before ∙ append_assoc old (spelled spell c (take i xs)) (spell x)
-      ∙ ap (λ t. old ++ t) (sym (ap (spelled spell c) next ∙ either spell c (take i xs) (x ∷ []) (λ some. absurd (omega (arith, some, none, length-front i xs below)))))
-
-  pub later_more : 0 < i → new ≡ (so_far ++ c ∷ []) ++ spell x → new ≡ old ++ spelled spell c (take (i + 1) xs)
-  later_more some added =
-      added ∙ ap (λ t. (t ++ c ∷ []) ++ spell x) before
-      ∙ ap (λ t. t ++ spell x) (append_assoc old (spelled spell c (take i xs)) (c ∷ []))
-      ∙ append_assoc old (spelled spell c (take i xs) ++ c ∷ []) (spell x)
-      ∙ ap (λ t. old ++ t) (sym (ap (spelled spell c) next ∙ both spell c (take i xs) (x ∷ []) (omega (arith, some, length-front i xs below)) (omega arith)))
-
--- ---- a group
-
-abbrev pub cells_text : (Item → List ℕ) → ℕ → List (Option Scalar) → List ℕ
-cells_text spell c xs = spelled spell c (map item_of_scalar xs)
-
--- whether a vector has items, by its test
-pub some_by : (xs : List (Option Scalar)) (n : ℕ) → n ≡ length xs → false ≡ (n == 0) → 0 < length xs
-some_by [] n long none = absurd (false≢true (none ∙ ap (λ k. k == 0) long))
-some_by (x ∷ xs) n long none = omega arith
-
-pub none_by : (xs : List (Option Scalar)) (n : ℕ) → n ≡ length xs → true ≡ (n == 0) → length xs ≤ 0
-none_by [] n long none = omega arith
-none_by (x ∷ xs) n long none = grind (arith, nat_tests)
-
-module _ (spell : Item → List ℕ) (c : ℕ) (keys cells : List (Option Scalar)) (old keyed new : List ℕ) (first : keyed ≡ old ++ cells_text spell c keys) where
-  abbrev Whole : Type 0
-  Whole = new ≡ old ++ spelled spell c (map item_of_scalar keys ++ map item_of_scalar cells)
-
-  pub both_parts : 0 < length keys → 0 < length cells → new ≡ (keyed ++ c ∷ []) ++ cells_text spell c cells → Whole
-  both_parts some more added =
-      added ∙ ap (λ t. (t ++ c ∷ []) ++ cells_text spell c cells) first
-      ∙ ap (λ t. t ++ cells_text spell c cells) (append_assoc old (cells_text spell c keys) (c ∷ []))
-      ∙ append_assoc old (cells_text spell c keys ++ c ∷ []) (cells_text spell c cells)
-      ∙ ap (λ t. old ++ t) (sym (both spell c (map item_of_scalar keys) (map item_of_scalar cells)
-      (omega (arith, some, length-map keys item_of_scalar)) (omega (arith, more, length-map cells item_of_scalar))))
-
-  pub either_part : (0 < length keys → length cells ≤ 0) → new ≡ keyed ++ cells_text spell c cells → Whole
-  either_part none added =
-      added ∙ ap (λ t. t ++ cells_text spell c cells) first
-      ∙ append_assoc old (cells_text spell c keys) (cells_text spell c cells)
-      ∙ ap (λ t. old ++ t) (sym (either spell c (map item_of_scalar keys) (map item_of_scalar cells)
-      (λ some. omega (arith, none (omega (arith, some, length-map keys item_of_scalar)), length-map cells item_of_scalar))))
+-- values, and values behind them
+pub both : {A B : Type 0} (spell : B → List ℕ) (c : ℕ) (item : A → B) (xs ys : List A) (n : ℕ) (old now : List ℕ) → n ≡ length xs → now ≡ old ++ joined_behind c false (map (λ x. spell (item x)) xs)
+    → now ++ joined_behind c (not (n == 0)) (map (λ x. spell (item x)) ys) ≡ old ++ join_with_byte c (map spell (map item xs ++ map item ys))
+both spell c item xs ys n old now long first =
+    let front = map (λ x. spell (item x)) xs in
+    let back = map (λ x. spell (item x)) ys in
+    ap (λ t. t ++ joined_behind c (not (n == 0)) back) first
+    ∙ ap (λ b. (old ++ joined_behind c false front) ++ joined_behind c b back) (some_by (λ x. spell (item x)) xs n long)
+    ∙ append_assoc old (joined_behind c false front) (joined_behind c (has_some front) back)
+    ∙ ap (λ t. old ++ t) (sym (joined_behind-append c false front back) ∙ joined c (front ++ back)
+    ∙ ap (join_with_byte c) (sym (map-append spell (map item xs) (map item ys) ∙ (λ j. map-map spell item xs j ++ map-map spell item ys j))))

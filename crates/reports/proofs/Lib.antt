@@ -5,4 +5,4 @@ mod JoinLemmas
 mod RowLemmas
 pub mod FileLemmas
 pub mod ParseLemmas
-pub mod QueryLemmas
+pub mod FaultLemmas

@@ -9,6 +9,7 @@ use Rattle.arrow_json.specs.JsonFile.{AreUnder, BytesFault}
 use Rattle.arrow_json.specs.FaultAt.{Tells, stands, wants}
 use Rattle.arrow_json.specs.JsonFault.{JsonFault}
 use Rattle.arrow_json.specs.JsonFaultKinds.{NoMemory as wanting}
+use Rattle.reports.specs.OrMemory.{OrMemory}
 use Rattle.reports.specs.Parsed.{AddsFiles, IsFirstUnread, IsParsed, IsTextOf, StopsParsing}
 use Rattle.reports.specs.declared.run_fault.FileFault.TheVariants.{Json}
 use Rattle.reports.specs.declared.run_fault.RunFault.{RunFault}
@@ -97,10 +98,10 @@ AddsSoFar-stops texts old files rest later e so_far next other =
     }
 
 pub reported_stops : (texts : List (List ℕ)) (old files : List File) (rest later : List Parsed) (e : JsonFault) (place : ℕ) (reported : RunFault) → AddsSoFar texts old files rest → rest ≡ Err e ∷ later → place ≡ length files
-    → (reported ≡ NoMemory) ⊎ ((e.kind ≡ wanting → ⊥) × (reported ≡ OfFile place (Json e))) → StopsParsing texts (length old) reported
-reported_stops texts old files rest later e place reported so_far next here (inl is) = subst (StopsParsing texts (length old)) (sym is) tt
+    → (reported ≡ NoMemory) ⊎ ((e.kind ≡ wanting → ⊥) × (reported ≡ OfFile place (Json e))) → OrMemory (StopsParsing texts (length old)) reported
+reported_stops texts old files rest later e place reported so_far next here (inl is) = inl is
 reported_stops texts old files rest later e place reported so_far next here (inr is) =
-    subst (StopsParsing texts (length old)) (sym is.1) (subst (λ k. IsFirstUnread texts (length old) k e) (sym here) (AddsSoFar-stops texts old files rest later e so_far next is.0))
+    inr (place, e, is.1, subst (λ k. IsFirstUnread texts (length old) k e) (sym here) (AddsSoFar-stops texts old files rest later e so_far next is.0))
 
 -- nothing is left: all were added
 pub AddsSoFar-whole : (texts : List (List ℕ)) (old files : List File) (rest : List Parsed) → AddsSoFar texts old files rest → length rest ≡ 0 → AddsFiles texts old files

@@ -1,5 +1,5 @@
 -- The output of `query`: the items of each group's key and then its aggregates, as a line, an array of JSON or a record of CSV.
-use Rattle.std.specs.Prelude.{ℕ, List, ◌++◌, codes, map}
+use Rattle.std.specs.Prelude.{ℕ, List, [], ◌∷◌, ◌++◌, Bool, true, codes, cond, map}
 use Rattle.std.specs.List.{flat_map, join_with_byte}
 use Rattle.table.specs.Groups.{GroupShape}
 use Rattle.arrays.specs.Item.{Item}
@@ -57,3 +57,8 @@ group_records q groups = names_record q ++ flat_map group_record groups
 abbrev pub spell : Spelling → Item → List ℕ
 spell Json = cell
 spell Csv = csv_cell
+
+-- Texts with a byte between each two, and before the first where something came before.
+abbrev pub joined_behind : ℕ → Bool → List (List ℕ) → List ℕ
+joined_behind c behind [] = []
+joined_behind c behind (t ∷ ts) = cond behind (c ∷ []) [] ++ (t ++ joined_behind c true ts)

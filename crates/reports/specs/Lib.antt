@@ -12,5 +12,6 @@ pub mod FileBatches
 pub mod AddFaultText
 pub mod Lines
 pub mod FaultLine
+pub mod OrMemory
 pub mod Parsed
 pub mod QueryFaults

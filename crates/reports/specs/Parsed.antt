@@ -1,13 +1,13 @@
 -- What the texts of files are read as, and which fault of theirs is reported.
-use Rattle.std.specs.Prelude.{◌≡◌, ◌+◌, ◌++◌, ◌∷◌, ℕ, List, MatchResult, Result, length, ⊤}
+use Rattle.std.specs.Prelude.{◌≡◌, ◌+◌, ◌++◌, ◌∷◌, ℕ, List, MatchResult, Result, length}
 use Rattle.std.specs.List.{AllZip}
 use Rattle.arrays.specs.File.{File}
 use Rattle.arrow_json.specs.JsonFile.{AreUnder, BytesFault, Reads, file_of}
 use Rattle.arrow_json.specs.FaultAt.{Tells}
 use Rattle.arrow_json.specs.JsonFault.{JsonFault}
-use Rattle.reports.specs.declared.run_fault.FileFault.TheVariants.{CannotRead, Json, Refused}
+use Rattle.reports.specs.declared.run_fault.FileFault.TheVariants.{Json}
 use Rattle.reports.specs.declared.run_fault.RunFault.{RunFault}
-use Rattle.reports.specs.declared.run_fault.RunFault.TheVariants.{NoMemory, OfColumn, OfFile, QueryUnread, QueryRefused}
+use Rattle.reports.specs.declared.run_fault.RunFault.TheVariants.{OfFile}
 
 -- The text is read as the file, each of whose batches is under its schema.
 abbrev pub IsTextOf : List ℕ → File → Type 0
@@ -32,12 +32,6 @@ pub record IsFirstUnread (texts : List (List ℕ)) (before file : ℕ) (fault : 
   pub place : file ≡ before + length front
   pub stands : BytesFault text fault.kind fault.path
 
--- The fault of the first text that is no file, behind so many files.
+-- The first text that is no file, behind so many files, has this fault.
 abbrev pub StopsParsing : List (List ℕ) → ℕ → RunFault → Type 0
-StopsParsing texts before NoMemory = ⊤
-StopsParsing texts before (OfFile file CannotRead) = ⊥
-StopsParsing texts before (OfFile file (Json f)) = IsFirstUnread texts before file f
-StopsParsing texts before (OfFile file (Refused number refusal)) = ⊥
-StopsParsing texts before (QueryUnread f) = ⊥
-StopsParsing texts before (QueryRefused f) = ⊥
-StopsParsing texts before (OfColumn f) = ⊥
+StopsParsing texts before fault = (file : ℕ) × (f : JsonFault) × (fault ≡ OfFile file (Json f)) × IsFirstUnread texts before file f

@@ -1,5 +1,5 @@
 //! Texts, values and names as fields of CSV.
-ghost use Rattle.std.specs.Prelude.{◌≡◌, ◌∷◌, ◌++◌, ◌<◌, IfOk, OnOk, [], map, string_bytes};
+ghost use Rattle.std.specs.Prelude.{◌≡◌, ◌||◌, ◌∷◌, ◌++◌, ◌<◌, IfOk, OnOk, [], cond, map, nat_lt, string_bytes};
 ghost use Rattle.std.specs.Str.{chars};
 ghost use Rattle.std.specs.Prelude.{flat_map};
 ghost use Rattle.std.specs.List.{join_with_byte, list_any};
@@ -78,9 +78,7 @@ fn push_texts(text: &mut String, values: &[String]) -> Result<(), AllocError>
         ≡ string_bytes text.old ++ join_with_byte 44 (map csv_text (map string_bytes values.now))) }
 {
     for i in 0..values.len() {
-        if i > 0 {
-            push_byte(text, b',')?;
-        }
+        push_between(text, b',', false, i)?;
         push_text(text, &values[i])?;
     }
     Ok(())
@@ -149,6 +147,22 @@ fn push_char(text: &mut String, c: char) -> Result<(), AllocError>
     } else {
         text.push(c)
     }
+}
+
+/// Adds a byte of ASCII before the item at a place, unless it is the first and nothing came before.
+pub(crate) fn push_between(
+    text: &mut String,
+    byte: u8,
+    behind: bool,
+    place: usize,
+) -> Result<(), AllocError>
+    requires { byte < 128 }
+    ensures { OnOk result (string_bytes text.new ≡ string_bytes text.old ++ cond (behind || nat_lt 0 place) (byte ∷ []) []) }
+{
+    if behind || place > 0 {
+        push_byte(text, byte)?;
+    }
+    Ok(())
 }
 
 /// Adds a byte of ASCII.

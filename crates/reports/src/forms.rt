@@ -1,14 +1,13 @@
 //! The groups of an answer as text: as lines, as arrays of JSON, or as records of CSV.
 ghost use Rattle.std.specs.Prelude.{◌≡◌, ◌++◌, ◌<◌, IfOk, OnOk, map, string_bytes};
-ghost use Rattle.std.specs.List.{join_with_byte};
 ghost use Rattle.table.specs.Scalars.{item_of_scalar};
 ghost use Rattle.table.specs.Answers.{group_shape};
 ghost use Rattle.table.specs.Resolved.{named};
 ghost use Rattle.reports.specs.Csv.{csv_cell};
-ghost use Rattle.reports.specs.GroupLines.{group_array, group_arrays, group_line, group_lines, group_record, group_records, group_text, spell};
+ghost use Rattle.reports.specs.GroupLines.{group_array, group_arrays, group_line, group_lines, group_record, group_records, group_text, joined_behind, spell};
 ghost use Rattle.reports.specs.Shown.{cell};
 
-use crate::csv::{push_byte, push_names, push_scalar_field};
+use crate::csv::{push_between, push_names, push_scalar_field};
 use crate::text::push_scalar;
 use arrays::NoMemory;
 use std::alloc::Global;
@@ -95,30 +94,32 @@ fn push_group(
     ensures { OnOk result (string_bytes text.new
         ≡ string_bytes text.old ++ group_text (spell spelling) separator (group_shape group.now)) }
 {
-    push_cells(alloc, text, spelling, separator, &group.keys)?;
-    if !group.keys.is_empty() && !group.cells.is_empty() {
-        push_byte(text, separator)?;
-    }
-    push_cells(alloc, text, spelling, separator, &group.cells)?;
-    Ok(())
+    push_cells(alloc, text, spelling, separator, false, &group.keys)?;
+    push_cells(
+        alloc,
+        text,
+        spelling,
+        separator,
+        !group.keys.is_empty(),
+        &group.cells,
+    )
 }
 
-/// Adds cells, with one byte between.
+/// Adds cells, with one byte between, and before the first where something came before.
 fn push_cells(
     alloc: Global,
     text: &mut String,
     spelling: Spelling,
     separator: u8,
+    behind: bool,
     cells: &[Option<Scalar>],
 ) -> Result<(), NoMemory>
     requires { separator < 128 }
     ensures { OnOk result (string_bytes text.new
-        ≡ string_bytes text.old ++ join_with_byte separator (map (spell spelling) (map item_of_scalar cells.now))) }
+        ≡ string_bytes text.old ++ joined_behind separator behind (map (λ x. spell spelling (item_of_scalar x)) cells.now)) }
 {
     for i in 0..cells.len() {
-        if i > 0 {
-            push_byte(text, separator)?;
-        }
+        push_between(text, separator, behind, i)?;
         push_spelled(alloc, text, spelling, &cells[i])?;
     }
     Ok(())

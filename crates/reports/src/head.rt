@@ -9,7 +9,7 @@ ghost use Rattle.table.specs.Lawful.{IsStored};
 ghost use Rattle.reports.specs.Rows.{first_lines, member_text, row_line};
 ghost use Rattle.reports.specs.Shown.{array_text, cell};
 
-use crate::csv::push_byte;
+use crate::csv::{push_between, push_byte};
 use crate::text::{push_null, push_number, push_string, push_truth};
 use arrays::{Array, Field, NoMemory, RecordBatch, View, ViewType};
 use std::alloc::Global;
@@ -99,9 +99,7 @@ fn push_members(
         ≡ string_bytes text.old ++ join_with_byte 44 (map member_text (zip (fields_of fields.now) (row_of columns.now row)))) }
 {
     for k in 0..fields.len() {
-        if k > 0 {
-            push_byte(text, b',')?;
-        }
+        push_between(text, b',', false, k)?;
         push_member(alloc, text, &fields[k], &columns[k].view(), row)?;
     }
     Ok(())
@@ -173,9 +171,7 @@ fn push_list(alloc: Global, text: &mut String, column: &View<'_>) -> Result<(), 
 {
     push_byte(text, b'[')?;
     for i in 0..column.len() {
-        if i > 0 {
-            push_byte(text, b',')?;
-        }
+        push_between(text, b',', false, i)?;
         push_item(alloc, text, column, i)?;
     }
     push_byte(text, b']')?;

@@ -23,7 +23,7 @@ pub use csv::column_names;
 pub use export::export_text;
 pub use fault_lines::line_of;
 pub use forms::{group_arrays, group_lines, group_records};
-pub use groups::{answer_of, groups_text, placed_groups, placed_query};
+pub use groups::{groups_text, placed_groups, placed_query};
 pub use head::head_text;
 pub use query_text::read_query_text;
 pub use report::stats_text;

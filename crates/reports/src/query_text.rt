@@ -2,6 +2,7 @@
 ghost use Rattle.std.specs.Prelude.{IfErr, IfOk};
 ghost use Rattle.arrow_json.specs.QueryDocument.{ReadsQueryText};
 ghost use Rattle.table.specs.Resolved.{named};
+ghost use Rattle.reports.specs.OrMemory.{OrMemory};
 ghost use Rattle.reports.specs.QueryFaults.{IsUnreadQuery};
 
 use crate::run_fault::RunFault;
@@ -12,7 +13,7 @@ use table::QueryText;
 /// The query that the bytes are read as, or why they aren't.
 pub fn read_query_text(alloc: Global, bytes: &[u8]) -> Result<QueryText, RunFault>
     ensures ok { IfOk result (λ query. ReadsQueryText bytes.now (named query)) }
-    ensures err { IfErr result (IsUnreadQuery bytes.now) }
+    ensures err { IfErr result (OrMemory (IsUnreadQuery bytes.now)) }
 {
     match read_query(alloc, bytes) {
         Ok(query) => Ok(query),

@@ -62,6 +62,22 @@ impl<T: Drop> From<AllocFailed<T>> for RunFault {
     }
 }
 
+/// A query is refused, or memory ran out.
+impl From<QueryFault> for RunFault {
+    ghost use Rattle.std.specs.Prelude.{◌≡◌, ◌≢◌, ◌⊎◌};
+    ghost use Rattle.reports.specs.declared.run_fault.RunFault.TheVariants as fault;
+    ghost use Rattle.table.specs.QueryFaults as query;
+
+    ghost from_gives = { λ q e. ((q ≡ query.NoMemory) × (e ≡ fault.NoMemory)) ⊎ ((q ≢ query.NoMemory) × (e ≡ fault.QueryRefused q)) };
+
+    fn from(fault: QueryFault) -> RunFault {
+        match fault {
+            QueryFault::NoMemory => RunFault::NoMemory,
+            _ => RunFault::QueryRefused(fault),
+        }
+    }
+}
+
 /// The fault of the file at a place, whose text isn't read.
 pub fn text_fault(place: usize, fault: JsonFault) -> RunFault
     ensures { (result ≡ RunFault.NoMemory) ⊎ ((fault.kind ≢ JsonFaultKind.NoMemory) × (result ≡ RunFault.OfFile place (FileFault.Json fault))) }

@@ -1,6 +1,12 @@
-use Rattle.std.proofs.Common.{inr}
 use Rattle.std.proofs.lemmas.Result.{IfErr-weaker}
+use Rattle.table.specs.Resolved.{named}
+use Rattle.reports.proofs.FaultLemmas.{or_memory}
+use Rattle.reports.specs.QueryFaults.{IsUnanswered}
+use Rattle.arrowtab.specs.Wanted.{IsUnprinted}
 use Rattle.arrowtab.proofs.answer.output_of.Goals as goal
 
 pub returns-in-Groups-clause-err : goal.returns-in-Groups-clause-err
-returns-in-Groups-clause-err g c = IfErr-weaker c.groups_text.result _ _ (λ e why. inr (c.in-Groups.query, c.in-Groups.output, c.in-Groups.is, why)) c.groups_text.ensures.err
+returns-in-Groups-clause-err g c =
+    let v = c.args.version.now in
+    let unprinted = or_memory (IsUnanswered (named c.in-Groups.query) v.fields v.history) (IsUnprinted c.args.wanted.now v.fields v.history) (λ e why. (c.in-Groups.query, c.in-Groups.output, c.in-Groups.is, why)) in
+    IfErr-weaker c.groups_text.result _ _ unprinted c.groups_text.ensures.err

@@ -12,7 +12,7 @@ use Rattle.table.specs.declared.add_fault.AddFault.TheVariants as add
 use Rattle.reports.specs.declared.run_fault.ColumnFault.TheVariants.{Refused}
 use Rattle.reports.specs.declared.run_fault.RunFault.{RunFault}
 use Rattle.reports.specs.declared.run_fault.RunFault.TheVariants.{NoMemory, OfColumn}
-use Rattle.arrowtab.specs.OrMemory.{OrMemory}
+use Rattle.reports.specs.OrMemory.{OrMemory}
 use Rattle.arrowtab.specs.Worked.{IsWidenedFirst, StopsLoading}
 use Rattle.arrowtab.proofs.TogetherLemmas.{all_fit, loaded_there, written_back}
 use Rattle.arrowtab.proofs.WideLemmas.{first_count, none_other, ok_wide, wide_there}

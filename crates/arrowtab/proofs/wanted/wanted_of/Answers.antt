@@ -1,15 +1,21 @@
 use Rattle.std.proofs.Common.{refl, subst}
+use Rattle.std.proofs.lemmas.Result.{err_from_is_err_and}
 use Rattle.table.specs.Resolved.{named}
 use Rattle.arrow_json.specs.QueryDocument.{ReadsQueryText}
+use Rattle.reports.proofs.FaultLemmas.{or_memory}
+use Rattle.reports.specs.OrMemory.{OrMemory}
 use Rattle.reports.specs.QueryFaults.{IsUnreadQuery}
 use Rattle.arrowtab.proofs.AnswerLemmas.{text_unread}
 use Rattle.arrowtab.proofs.wanted.wanted_of.Goals as goal
 
-pub returns-in-Ok-clause-ok : goal.returns-in-Ok-clause-ok
-returns-in-Ok-clause-ok c =
-    rw c.in-Query.is
-    (c.in-Ok.query, refl, subst (λ b. ReadsQueryText b (named c.in-Ok.query)) c.text.ensures c.in-Ok.ensures.ok)
+pub returns-in_ok-read-in-Query-clause-ok : goal.returns-in_ok-read-in-Query-clause-ok
+returns-in_ok-read-in-Query-clause-ok c =
+    let read = c.in_ok-read-in-Query.read in
+    rw c.in-Query.is (read, refl, subst (λ b. ReadsQueryText b (named read)) c.text.ensures c.in_ok-read-in-Query.ensures.ok)
 
-pub returns-in-Err-clause-err : goal.returns-in-Err-clause-err
-returns-in-Err-clause-err c =
-    text_unread c.args.command.now c.in-Query.query c.in-Query.output c.in-Err.fault c.in-Query.is (subst (λ b. IsUnreadQuery b c.in-Err.fault) c.text.ensures c.in-Err.ensures.err)
+pub returns-in_err-read-in-Query-clause-err : goal.returns-in_err-read-in-Query-clause-err
+returns-in_err-read-in-Query-clause-err c =
+    let fault = c.in_err-read-in-Query.field-0.0 in
+    let p = err_from_is_err_and c.from_residual.result c.from_residual.ensures.1 in
+    rw (p.1, p.2)
+    (or_memory _ _ (text_unread c.args.command.now c.in-Query.query c.in-Query.output c.in-Query.is) fault (subst (λ b. OrMemory (IsUnreadQuery b) fault) c.text.ensures c.in_err-read-in-Query.ensures.err))

@@ -1,9 +1,27 @@
+use Rattle.std.proofs.Common.{◌∙◌, ap, map, string_bytes}
+use Rattle.table.specs.Answers.{group_shape}
+use Rattle.embed.specs.Answer.{of_batch}
 use Rattle.table.specs.QueryShape.{query_shape}
 use Rattle.table.specs.Resolved.{named}
-use Rattle.reports.proofs.QueryLemmas.{unanswered_of}
+use Rattle.reports.specs.GroupLines.{column_names}
+use Rattle.results.specs.Result.{result_batch}
+use Rattle.results.specs.Types.{result_types}
 use Rattle.embed.proofs.answering.named_table.Goals as goal
 
-pub returns-clause-err : goal.returns-clause-err
-returns-clause-err c =
-    let v = c.args.version.now in
-    unanswered_of (named c.args.query.now) (query_shape c.in_ok-placed.placed) v.fields v.history c.in_ok-placed.ensures.ok c.placed_table.result c.placed_table.ensures.err
+pub returns-clause-ok : goal.returns-clause-ok
+returns-clause-ok c =
+    let placed = query_shape c.in_ok-placed.placed in
+    let found = map group_shape c.in_ok-answer.answer.groups.items in
+    let names = ap (map string_bytes) c.deref.ensures.value ∙ c.in_ok-names.ensures in
+    let types = c.deref-2.ensures.value ∙ c.in_ok-types.ensures ∙ ap (λ fields. result_types fields placed) c.schema.ensures in
+    record {
+      placed = placed;
+      found = found;
+      resolves = c.in_ok-placed.ensures.ok;
+      asks = c.in_ok-answer.ensures.ok;
+      is =
+          c.in_ok-table_of.ensures
+          ∙ ap of_batch (c.in_ok-batch.ensures
+          ∙ ap (λ called. result_batch called c.deref-2.result.now found) names
+          ∙ ap (λ known. result_batch (column_names (named c.args.query.now)) known found) types);
+    }

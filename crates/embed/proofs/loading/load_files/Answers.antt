@@ -5,7 +5,9 @@ use Rattle.arrays.specs.Shape.{FieldShape}
 use Rattle.embed.specs.Loaded.{AddsAll, all_batches}
 use Rattle.embed.specs.Refused.{StopsIn}
 use Rattle.reports.proofs.FileLemmas.{data_of}
+use Rattle.reports.proofs.FaultLemmas.{or_memory}
 use Rattle.reports.specs.FileBatches.{batch_of}
+use Rattle.reports.specs.OrMemory.{OrMemory}
 use Rattle.embed.proofs.LoadLemmas.{file_at, files-more, files-stop}
 use Rattle.embed.proofs.loading.load_files.Goals as goal
 
@@ -18,9 +20,9 @@ returns-in_err-add_batches-clause-err c =
     let fault = c.in_err-add_batches.field-0.0 in
     let e = err_from_is_err_and c.from_residual-in_err-add_batches.result c.from_residual-in_err-add_batches.ensures.1 in
     rw (e.1, e.2)
-    (files-stop files c.requires at.place f (file_at files at.place f c.loop-place-test.true c.index-files-place.is) fault
-    (subst (λ (fs : List FieldShape). StopsIn before (map batch_of f.batches) fs at.place fault) at.invariant.fields
-    (subst (λ (bs : List Batch). StopsIn before (map batch_of bs) at.table.fields at.place fault) c.batches.ensures.value (c.in_err-add_batches.ensures.err before at.invariant.loaded))))
+    (or_memory _ _ (files-stop files c.requires at.place f (file_at files at.place f c.loop-place-test.true c.index-files-place.is)) fault
+    (subst (λ (fs : List FieldShape). OrMemory (StopsIn before (map batch_of f.batches) fs at.place) fault) at.invariant.fields
+    (subst (λ (bs : List Batch). OrMemory (StopsIn before (map batch_of bs) at.table.fields at.place) fault) c.batches.ensures.value (c.in_err-add_batches.ensures.err before at.invariant.loaded))))
 
 pub loop-place-preserved : goal.loop-place-preserved
 loop-place-preserved c =

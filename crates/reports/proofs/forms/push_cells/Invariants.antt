@@ -1,8 +1,8 @@
-use Rattle.std.proofs.Common.{◌≡◌, ◌++◌, string_bytes, take}
-use Rattle.reports.specs.GroupLines.{spell}
-use Rattle.reports.proofs.JoinLemmas.{cells_text}
+use Rattle.std.proofs.Common.{◌≡◌, ◌++◌, map, string_bytes, take}
+use Rattle.table.specs.Scalars.{item_of_scalar}
+use Rattle.reports.specs.GroupLines.{joined_behind, spell}
 use Rattle.reports.proofs.forms.push_cells.Given as goal
 
 -- The cells so far.
 abbrev pub invariant-loop-i : goal.invariant-loop-i
-invariant-loop-i l = string_bytes l.text ≡ string_bytes l.fn.text ++ cells_text (spell l.spelling) l.separator (take l.i l.cells)
+invariant-loop-i l = string_bytes l.text ≡ string_bytes l.fn.text ++ joined_behind l.separator l.behind (map (λ x. spell l.spelling (item_of_scalar x)) (take l.i l.cells))

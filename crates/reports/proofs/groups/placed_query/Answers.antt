@@ -1,16 +1,14 @@
 use Rattle.std.proofs.Common.{◌∙◌, ap, sym}
-use Rattle.table.specs.QueryShape.{query_shape}
-use Rattle.table.specs.FirstFault.{fits}
+use Rattle.std.proofs.lemmas.Result.{err_from_is_err_and}
 use Rattle.table.specs.Resolved.{named, resolved}
-use Rattle.reports.proofs.QueryLemmas.{refused_under}
+use Rattle.reports.proofs.FaultLemmas.{refused_under}
 use Rattle.reports.proofs.groups.placed_query.Goals as goal
 
-pub returns-in-Ok-clause-ok : goal.returns-in-Ok-clause-ok
-returns-in-Ok-clause-ok c = ap (λ fs. resolved fs (named c.args.query.now)) (sym c.schema.ensures) ∙ c.in-Ok.ensures.ok
+pub returns-clause-ok : goal.returns-clause-ok
+returns-clause-ok c = ap (λ fs. resolved fs (named c.args.query.now)) (sym c.schema.ensures) ∙ c.in_ok-resolve.ensures.ok
 
-pub returns-in-Ok-clause-fits : goal.returns-in-Ok-clause-fits
-returns-in-Ok-clause-fits c = ap (λ fs. fits fs (query_shape c.in-Ok.placed)) (sym c.schema.ensures) ∙ c.in-Ok.ensures.fits
-
-pub returns-in_default-clause-err : goal.returns-in_default-clause-err
-returns-in_default-clause-err c =
-    refused_under (named c.args.query.now) c.schema.result.now c.args.version.now.fields c.args.version.now.history c.in-Err.fault c.schema.ensures c.in_default.not-NoMemory c.in-Err.ensures.err
+pub returns-in_err-resolve-clause-err : goal.returns-in_err-resolve-clause-err
+returns-in_err-resolve-clause-err c =
+    let v = c.args.version.now in
+    let p = err_from_is_err_and c.from_residual.result c.from_residual.ensures.1 in
+    rw p.1 (refused_under (named c.args.query.now) c.schema.result.now v.fields v.history c.in_err-resolve.field-0.0 p.0 c.schema.ensures p.2 c.in_err-resolve.ensures.err)

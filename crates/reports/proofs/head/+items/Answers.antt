@@ -3,10 +3,9 @@ use Rattle.std.specs.Prelude.{slice_index_or}
 use Rattle.std.proofs.lemmas.Option.{get_or_from_slice_get, slice_get-get_or}
 use Rattle.arrays.specs.Item.{null}
 use Rattle.reports.specs.Shown.{array_text, cell}
-use Rattle.reports.proofs.JoinLemmas.{first_more, later_more}
+use Rattle.reports.proofs.JoinLemmas.{joined_more}
 use Rattle.reports.proofs.RowLemmas.{cells-list}
 use Rattle.reports.proofs.head.+items.Goals as goal
-use Rattle.reports.proofs.head.+items.Goals.{push_list-then-i-gt0+in_ok-push_byte-2, push_list-else-i-gt0}
 
 pub push_list-loop-i-preserved : goal.push_list-loop-i-preserved
 push_list-loop-i-preserved t c =
@@ -15,17 +14,7 @@ push_list-loop-i-preserved t c =
     let x = slice_index_or xs i null in
     let below : i < length xs = omega (arith, c.loop-i-test.true, c.len-i-end.ensures) in
     let is : x ≡ get_or xs i x = sym (get_or_from_slice_get xs i (get_or xs i null) x (slice_get-get_or xs i null below)) in
-    let old = string_bytes c.args.text.now ++ 91 ∷ [] in
-    let so_far = string_bytes c.loop-i.text in
-    let new = string_bytes c.push_item.new.text in
-    elim c.if-i-gt0.branch [
-      | push_list-then-i-gt0+in_ok-push_byte-2 w ↦
-          later_more cell 44 xs i x below is old so_far new c.loop-i.invariant w.if-i-gt0.true
-          (c.in_ok-push_item.ensures ∙ ap (λ t. string_bytes t ++ cell x) w.text-is ∙ ap (λ t. t ++ cell x) w.in_ok-push_byte-2.ensures)
-      | push_list-else-i-gt0 w ↦
-          first_more cell 44 xs i x below is old so_far new c.loop-i.invariant w.if-i-gt0.false
-          (c.in_ok-push_item.ensures ∙ ap (λ t. string_bytes t ++ cell x) w.text-is)
-    ]
+    joined_more cell 44 xs i x below is (string_bytes c.args.text.now ++ 91 ∷ []) _ _ c.loop-i.invariant (c.in_ok-push_item.ensures ∙ ap (λ t. t ++ cell x) c.in_ok-push_between.ensures)
 
 pub push_list_at-returns-in-Some : goal.push_list_at-returns-in-Some
 push_list_at-returns-in-Some t c =

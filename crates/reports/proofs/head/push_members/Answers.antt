@@ -1,6 +1,6 @@
-use Rattle.std.proofs.Common.{◌≡◌, ◌∙◌, ◌++◌, ◌<◌, ◌≤◌, List, ap, ap₂, arith, get_or, length, string_bytes, sym}
+use Rattle.std.proofs.Common.{◌≡◌, ◌∙◌, ◌++◌, ◌<◌, ◌≤◌, List, ap, ap₂, arith, get_or, length, map, string_bytes, sym}
 use Rattle.std.specs.Prelude.{slice_index_or}
-use Rattle.std.specs.List.{zip}
+use Rattle.std.specs.List.{join_with_byte, zip}
 use Rattle.std.proofs.lemmas.List.{get_or-map, length-map, take_all}
 use Rattle.std.proofs.lemmas.Slice.Zip.{get_or-zip, length-zip}
 use Rattle.arrays.specs.Batch.{row_of}
@@ -8,9 +8,8 @@ use Rattle.arrays.specs.Item.{Item, null}
 use Rattle.arrays.specs.Seen.{Seen}
 use Rattle.arrays.specs.Shape.{FieldShape, field_of, fields_of}
 use Rattle.reports.specs.Rows.{member_text}
-use Rattle.reports.proofs.JoinLemmas.{first_more, later_more, spelled}
+use Rattle.reports.proofs.JoinLemmas.{joined_more}
 use Rattle.reports.proofs.head.push_members.Goals as goal
-use Rattle.reports.proofs.head.push_members.Goals.{then-k-gt0+in_ok-push_byte, else-k-gt0}
 
 pub loop-k-preserved : goal.loop-k-preserved
 loop-k-preserved c =
@@ -29,18 +28,8 @@ loop-k-preserved c =
     let field_is : get_or (fields_of fields) k (field_of f) ≡ field_of f = get_or-map field_of fields k f (field_of f) c.loop-k-test.true ∙ ap field_of (sym c.index-fields-k.is) in
     let item_is : get_or row k (item_in column) ≡ item_in column = get_or-map item_in columns k column (item_in column) (omega (arith, c.loop-k-test.true, c.requires.columns)) ∙ ap item_in (sym c.index-columns-k.is) in
     let is : y ≡ get_or members k y = sym (get_or-zip (fields_of fields) row k y in_fields in_row ∙ ap₂ (λ (a : FieldShape) (b : Item). (a, b)) field_is item_is) in
-    let old = string_bytes c.args.text.now in
-    let so_far = string_bytes c.loop-k.text in
-    let new = string_bytes c.push_member.new.text in
-    let added = c.in_ok-push_member.ensures ∙ ap (λ (s : Seen). string_bytes c.if-k-gt0.text ++ member_text (field_of f, item_in s)) c.view.ensures in
-    elim c.if-k-gt0.branch [
-      | then-k-gt0+in_ok-push_byte w ↦
-          later_more member_text 44 members k y below is old so_far new c.loop-k.invariant w.if-k-gt0.true
-          (added ∙ ap (λ t. string_bytes t ++ member_text y) w.text-is ∙ ap (λ t. t ++ member_text y) w.in_ok-push_byte.ensures)
-      | else-k-gt0 w ↦
-          first_more member_text 44 members k y below is old so_far new c.loop-k.invariant w.if-k-gt0.false
-          (added ∙ ap (λ t. string_bytes t ++ member_text y) w.text-is)
-    ]
+    joined_more member_text 44 members k y below is _ _ _ c.loop-k.invariant
+    (c.in_ok-push_member.ensures ∙ ap (λ (s : Seen). string_bytes c.push_between.new.text ++ member_text (field_of f, item_in s)) c.view.ensures ∙ ap (λ t. t ++ member_text y) c.in_ok-push_between.ensures)
 
 pub returns : goal.returns
 returns c =
@@ -48,4 +37,4 @@ returns c =
     let row = row_of c.args.columns.now c.args.row in
     let members = zip (fields_of fields) row in
     let all : length members ≤ c.loop-k.k = omega (arith, c.loop-k-test.false, length-zip (fields_of fields) row, length-map fields field_of) in
-    c.loop-k.invariant ∙ ap (λ (l : List (FieldShape × Item)). string_bytes c.args.text.now ++ spelled member_text 44 l) (take_all c.loop-k.k members all)
+    c.loop-k.invariant ∙ ap (λ (l : List (FieldShape × Item)). string_bytes c.args.text.now ++ join_with_byte 44 (map member_text l)) (take_all c.loop-k.k members all)

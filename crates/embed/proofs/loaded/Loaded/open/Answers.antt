@@ -2,8 +2,10 @@ use Rattle.std.proofs.Common.{Bor, List, map, subst, sym, ℕ}
 use Rattle.std.proofs.lemmas.Result.{err_from_is_err_and}
 use Rattle.arrays.specs.File.{File}
 use Rattle.embed.specs.Refused.{StopsFiles}
+use Rattle.reports.proofs.FaultLemmas.{or_memory}
 use Rattle.reports.proofs.FileLemmas.{AreKept, data_of}
 use Rattle.reports.proofs.ParseLemmas.{texts_under}
+use Rattle.reports.specs.OrMemory.{OrMemory}
 use Rattle.embed.proofs.LoadLemmas.{all_loaded, loading_stops}
 use Rattle.embed.proofs.loaded.Loaded.open.Goals as goal
 
@@ -22,5 +24,5 @@ returns-in_err-state-clause-err c =
     let fault = c.in_err-state.field-0.0 in
     let e = err_from_is_err_and c.from_residual-in_err-state.result c.from_residual-in_err-state.ensures.1 in
     rw (e.1, e.2)
-    (loading_stops (map (λ (t : Bor (List ℕ)). t.now) c.args.texts.now) c.in_ok-files.files.items fault c.in_ok-files.ensures.ok
-    (subst (λ (fs : List File). StopsFiles (data_of fs) fault) c.deref.ensures.value c.in_err-state.ensures.err))
+    (or_memory _ _ (λ e. loading_stops (map (λ (t : Bor (List ℕ)). t.now) c.args.texts.now) c.in_ok-files.files.items e c.in_ok-files.ensures.ok) fault
+    (subst (λ (fs : List File). OrMemory (StopsFiles (data_of fs)) fault) c.deref.ensures.value c.in_err-state.ensures.err))
