@@ -5,6 +5,4 @@ pub mod Follows
 pub mod Handle
 pub mod Lent
 pub mod Slot
-pub mod Snapshot
-pub mod SnapshotSlot
 pub mod Status

@@ -1,12 +1,13 @@
 //! The columns of a snapshot, lent.
 ghost use Rattle.std.specs.Prelude.{◌≡◌, ◌≢◌, ◌≤◌, [], length};
 ghost use Rattle.intake.specs.Schema.{Names};
+ghost use Rattle.selqumar.specs.Handle.{Asks, OfOpen, snapshot_in};
 ghost use Rattle.selqumar.specs.Lent.{IsLent, IsLentOf};
-ghost use Rattle.selqumar.specs.Snapshot.{OfSnapshot};
 ghost use Rattle.selqumar.specs.Status.{HasNoRoom, IsClosed, IsGiven, IsKept, Leaves, Never};
 
-use crate::snapshot_handle::SnapshotHandle;
-use crate::status::{GIVEN, NO_BATCH, NO_MEMORY, NOT_OPEN, put_items};
+use crate::handle::Handle;
+use crate::of_open;
+use crate::status::{GIVEN, NO_BATCH, NO_MEMORY, put_items};
 use arrays::NoMemory;
 use embed::Snapshot;
 use intake::{Node, fields_of, nodes_of};
@@ -17,24 +18,21 @@ use std::alloc::Global;
 #[unsafe(no_mangle)]
 pub extern "C" fn selqumar_lend<'a>(
     alloc: Global,
-    snapshot: &'a mut SnapshotHandle,
+    snapshot: &'a mut Handle,
     batch: usize,
     rows: &mut u32,
     nodes: &mut [Node<'a>],
     needed: &mut usize,
 ) -> u32
     ensures status { (result ≤ 5) × (result ≢ 1) }
-    ensures lent { result ≡ 0 → IsGiven (λ lent. OfSnapshot (IsLent batch rows.new lent) snapshot.old.slot.snapshot) nodes.old nodes.new needed.new }
-    ensures short { result ≡ 2 → HasNoRoom (λ lent. OfSnapshot (IsLentOf batch lent) snapshot.old.slot.snapshot) nodes.old nodes.new needed.new }
+    ensures lent { result ≡ 0 → IsGiven (λ lent. OfOpen (IsLent batch rows.new lent) (snapshot_in snapshot.old.slot.pointee)) nodes.old nodes.new needed.new }
+    ensures short { result ≡ 2 → HasNoRoom (λ lent. OfOpen (IsLentOf batch lent) (snapshot_in snapshot.old.slot.pointee)) nodes.old nodes.new needed.new }
     ensures memory { result ≡ 3 → IsKept nodes.old nodes.new needed.old needed.new }
-    ensures closed { IsClosed snapshot.old.slot.snapshot result nodes.old nodes.new needed.old needed.new }
-    ensures past { result ≡ 5 → OfSnapshot (λ s. length s.batches ≤ batch) snapshot.old.slot.snapshot × IsKept nodes.old nodes.new needed.old needed.new }
+    ensures closed { IsClosed (snapshot_in snapshot.old.slot.pointee) result nodes.old nodes.new needed.old needed.new }
+    ensures past { result ≡ 5 → OfOpen (λ s. length s.batches ≤ batch) (snapshot_in snapshot.old.slot.pointee) × IsKept nodes.old nodes.new needed.old needed.new }
     ensures rows { result ≢ 0 → rows.new ≡ rows.old }
 {
-    if !snapshot.is_open {
-        return NOT_OPEN;
-    }
-    lend(alloc, snapshot.slot.get_mut(), batch, rows, nodes, needed)
+    of_open!(snapshot, Snapshot(given) => lend(alloc, given, batch, rows, nodes, needed))
 }
 
 /// Lends the columns of a batch of a snapshot, and answers the status.
@@ -73,19 +71,15 @@ fn lend<'a>(
 #[unsafe(no_mangle)]
 pub extern "C" fn selqumar_lend_fields<'a>(
     alloc: Global,
-    snapshot: &'a mut SnapshotHandle,
+    snapshot: &'a mut Handle,
     nodes: &mut [Node<'a>],
     needed: &mut usize,
 ) -> u32
     ensures status { (result ≤ 4) × (result ≢ 1) }
-    ensures leaves { Leaves (λ lent. OfSnapshot (λ s. Names lent s.fields []) snapshot.old.slot.snapshot) Never
+    ensures asks { Asks (snapshot_in snapshot.old.slot.pointee) (λ s lent. Names lent s.fields []) (λ _. Never)
         result nodes.old nodes.new needed.old needed.new }
-    ensures closed { IsClosed snapshot.old.slot.snapshot result nodes.old nodes.new needed.old needed.new }
 {
-    if !snapshot.is_open {
-        return NOT_OPEN;
-    }
-    lend_fields(alloc, snapshot.slot.get_mut(), nodes, needed)
+    of_open!(snapshot, Snapshot(given) => lend_fields(alloc, given, nodes, needed))
 }
 
 /// Lends nodes that name the fields of a snapshot, and answers the status.

@@ -1,14 +1,16 @@
 //! Calls that fill a table, and that change it.
 ghost use Rattle.std.specs.Prelude.{◌≡◌, ◌≢◌, ◌≤◌};
 ghost use Rattle.intake.specs.Filling.{IsAppended, IsEmptyOf, IsWidened, StopsAppend, StopsNew, StopsWidening};
-ghost use Rattle.selqumar.specs.Handle.{Became, OfOpen};
-ghost use Rattle.selqumar.specs.Status.{IsClosed, IsNothing, Leaves, Never};
+ghost use Rattle.selqumar.specs.Handle.{Asks, Became, OfOpen, table_in};
+ghost use Rattle.selqumar.specs.Status.{IsNothing, Leaves, Never};
 ghost use Rattle.selqumar.specs.FaultLine.{IsFaultLine};
 ghost use Rattle.embed.specs.Compacted.{IsCompacted};
 
 use crate::fault_line::{put_fault, put_outcome};
 use crate::handle::Handle;
-use crate::status::{NO_MEMORY, NOT_OPEN, done};
+use crate::of_open;
+use crate::opened::open_table;
+use crate::status::{NO_MEMORY, done};
 use arrays::NoMemory;
 use embed::Loaded;
 use intake::{IntakeFault, Node, add_column, append, table_of};
@@ -25,18 +27,12 @@ pub extern "C" fn selqumar_new(
     needed: &mut usize,
 ) -> u32
     ensures status { result ≤ 3 }
-    ensures opened { result ≡ 0 → OfOpen (IsEmptyOf nodes.now) handle.new.slot.table }
+    ensures opened { result ≡ 0 → OfOpen (IsEmptyOf nodes.now) (table_in handle.new.slot.pointee) }
     ensures leaves { Leaves IsNothing (IsFaultLine (StopsNew nodes.now)) result out.old out.new needed.old needed.new }
-    ensures unchanged { result ≢ 0 → handle.new.slot.table ≡ handle.old.slot.table }
+    ensures unchanged { result ≢ 0 → handle.new.slot.pointee ≡ handle.old.slot.pointee }
 {
     match table_of(alloc, nodes) {
-        Ok(state) => match Box::new(alloc, Loaded::of(state)) {
-            Ok(table) => {
-                handle.open(alloc, table);
-                done(needed)
-            }
-            Err(_) => NO_MEMORY,
-        },
+        Ok(state) => open_table(alloc, Loaded::of(state), handle, needed),
         Err(fault) => put_fault(alloc, IntakeFault::Flat { fault }, out, needed),
     }
 }
@@ -53,20 +49,15 @@ pub extern "C" fn selqumar_append(
     needed: &mut usize,
 ) -> u32
     ensures status { result ≤ 4 }
-    ensures added { result ≡ 0 → Became (IsAppended worker rows nodes.now) handle.old.slot.table handle.new.slot.table }
-    ensures leaves { Leaves IsNothing (IsFaultLine (λ fault. OfOpen (λ t. StopsAppend rows nodes.now t fault) handle.old.slot.table))
+    ensures added { result ≡ 0 → Became (IsAppended worker rows nodes.now) (table_in handle.old.slot.pointee) (table_in handle.new.slot.pointee) }
+    ensures asks { Asks (table_in handle.old.slot.pointee) (λ _. IsNothing) (λ t. IsFaultLine (StopsAppend rows nodes.now t))
         result out.old out.new needed.old needed.new }
-    ensures unchanged { result ≢ 0 → handle.new.slot.table ≡ handle.old.slot.table }
-    ensures closed { IsClosed handle.old.slot.table result out.old out.new needed.old needed.new }
+    ensures unchanged { result ≢ 0 → handle.new.slot.pointee ≡ handle.old.slot.pointee }
 {
-    match handle.take(alloc) {
-        Some(mut table) => {
-            let outcome = append(alloc, &mut table.state, worker, rows, nodes);
-            handle.put(table);
-            put_outcome(alloc, outcome, out, needed)
-        }
-        None => NOT_OPEN,
-    }
+    of_open!(handle, Table(table) => {
+        let outcome = append(alloc, &mut table.state, worker, rows, nodes);
+        put_outcome(alloc, outcome, out, needed)
+    })
 }
 
 /// Adds a column of the field that nodes name behind the others of the table that is open: the rows that are there show null in it.
@@ -80,19 +71,15 @@ pub extern "C" fn selqumar_add_column(
     needed: &mut usize,
 ) -> u32
     ensures status { result ≤ 4 }
-    ensures added { result ≡ 0 → Became (IsWidened nodes.now) handle.old.slot.table handle.new.slot.table }
-    ensures leaves { Leaves IsNothing (IsFaultLine (StopsWidening nodes.now)) result out.old out.new needed.old needed.new }
-    ensures unchanged { result ≢ 0 → handle.new.slot.table ≡ handle.old.slot.table }
-    ensures closed { IsClosed handle.old.slot.table result out.old out.new needed.old needed.new }
+    ensures added { result ≡ 0 → Became (IsWidened nodes.now) (table_in handle.old.slot.pointee) (table_in handle.new.slot.pointee) }
+    ensures asks { Asks (table_in handle.old.slot.pointee) (λ _. IsNothing) (λ _. IsFaultLine (StopsWidening nodes.now))
+        result out.old out.new needed.old needed.new }
+    ensures unchanged { result ≢ 0 → handle.new.slot.pointee ≡ handle.old.slot.pointee }
 {
-    match handle.take(alloc) {
-        Some(mut table) => {
-            let outcome = add_column(alloc, &mut table.state, nodes);
-            handle.put(table);
-            put_outcome(alloc, outcome, out, needed)
-        }
-        None => NOT_OPEN,
-    }
+    of_open!(handle, Table(table) => {
+        let outcome = add_column(alloc, &mut table.state, nodes);
+        put_outcome(alloc, outcome, out, needed)
+    })
 }
 
 /// Joins neighbouring batches of the table that is open, of so many rows at most together. Nothing is ever written.
@@ -105,20 +92,12 @@ pub extern "C" fn selqumar_compact(
     needed: &mut usize,
 ) -> u32
     ensures status { (result ≤ 4) × (result ≢ 1) × (result ≢ 2) }
-    ensures joined { result ≡ 0 → Became (IsCompacted max_rows) handle.old.slot.table handle.new.slot.table }
-    ensures leaves { Leaves IsNothing Never result out.old out.new needed.old needed.new }
-    ensures unchanged { result ≢ 0 → handle.new.slot.table ≡ handle.old.slot.table }
-    ensures closed { IsClosed handle.old.slot.table result out.old out.new needed.old needed.new }
+    ensures joined { result ≡ 0 → Became (IsCompacted max_rows) (table_in handle.old.slot.pointee) (table_in handle.new.slot.pointee) }
+    ensures asks { Asks (table_in handle.old.slot.pointee) (λ _. IsNothing) (λ _. Never) result out.old out.new needed.old needed.new }
+    ensures unchanged { result ≢ 0 → handle.new.slot.pointee ≡ handle.old.slot.pointee }
 {
-    match handle.take(alloc) {
-        Some(mut table) => {
-            let outcome = table.state.compact(max_rows);
-            handle.put(table);
-            match outcome {
-                Ok(()) => done(needed),
-                Err(NoMemory) => NO_MEMORY,
-            }
-        }
-        None => NOT_OPEN,
-    }
+    of_open!(handle, Table(table) => match table.state.compact(max_rows) {
+        Ok(()) => done(needed),
+        Err(NoMemory) => NO_MEMORY,
+    })
 }

@@ -21,11 +21,9 @@ mod columns;
 mod fault_line;
 mod filling;
 mod handle;
-mod lending;
 mod opened;
+mod pointee;
 mod slot;
-mod snapshot_handle;
-mod snapshot_slot;
 mod snapshots;
 mod status;
 

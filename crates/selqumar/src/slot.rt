@@ -1,43 +1,46 @@
-//! A table behind a pointer that C may keep.
+//! A table or a snapshot behind a pointer that C may keep.
 ghost use Rattle.std.specs.Prelude.{◌≡◌, ◌≢◌, None, Option, Some};
 ghost use Rattle.std.specs.Coded.{coded_option};
-ghost use Rattle.embed.specs.contracts.loaded.Loaded.{the_row};
-ghost use Rattle.embed.specs.declared.loaded.Loaded.{Loaded};
+ghost use Rattle.selqumar.specs.contracts.pointee.Pointee.{the_row};
+ghost use Rattle.selqumar.specs.declared.pointee.Pointee.{Pointee};
 
 use crate::boxed::BoxPointer;
-use embed::Loaded;
+use crate::pointee::Pointee;
 use std::marker::{Model, Send};
 use std::ptr::null_mut;
 
-/// A pointer to a table, or to nothing. It has no type, since C knows none.
+/// A pointer to a table or a snapshot, or to nothing. It has no type, since C knows none.
 #[repr(C)]
 #[derive(Drop)]
 pub struct Slot {
     pointer: *mut u8,
-    pub ghost table: { Option Loaded } by { coded_option the_row.coded },
+    pub ghost pointee: { Option Pointee } by { coded_option the_row.coded },
 }
 
 impl Model for Slot {
     ghost use Rattle.selqumar.specs.Slot.{owned_at};
 
-    ghost also_owns = { λ s. owned_at s.pointer s.table };
+    ghost also_owns = { λ s. owned_at s.pointer s.pointee };
 }
 
 unsafe impl Send for Slot {}
 
 impl Slot {
+    ghost use types.Logic.{sem};
+    ghost use Rattle.selqumar.specs.Follows.{slot_follows};
+
     /// A slot of nothing.
     pub(crate) fn empty() -> Slot
-        ensures { result.table ≡ None }
+        ensures { result.pointee ≡ None }
     {
         Slot {
             pointer: null_mut(),
         }
     }
 
-    /// A slot of the table of this pointer.
-    pub(crate) fn of(pointer: BoxPointer<Loaded>) -> Slot
-        ensures { result.table ≡ Some pointer.value }
+    /// A slot of what this pointer points to.
+    pub(crate) fn of(pointer: BoxPointer<Pointee>) -> Slot
+        ensures { result.pointee ≡ Some pointer.value }
     {
         let BoxPointer { pointer } = pointer;
         Slot {
@@ -45,14 +48,24 @@ impl Slot {
         }
     }
 
-    /// The pointer of the table that is there.
-    pub(crate) fn into_pointer(self) -> BoxPointer<Loaded>
-        requires { self.table ≢ None }
-        ensures { self.table ≡ Some result.value }
+    /// The pointer of what is there.
+    pub(crate) fn into_pointer(self) -> BoxPointer<Pointee>
+        requires { self.pointee ≢ None }
+        ensures { self.pointee ≡ Some result.value }
     {
         let Slot { pointer } = self;
         BoxPointer {
-            pointer: pointer as *mut Loaded,
+            pointer: pointer as *mut Pointee,
         }
+    }
+
+    /// What is there, lent.
+    pub(crate) fn get_mut(&mut self) -> &mut Pointee
+        requires { self.old.pointee ≢ None }
+        ensures* writes_back { sem 𝓛 (slot_follows self.entry result) }
+        ensures value { self.old.pointee ≡ Some result.now }
+    {
+        let pointer = self.pointer as *mut Pointee;
+        unsafe { &mut *pointer }
     }
 }

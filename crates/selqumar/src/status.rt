@@ -72,7 +72,7 @@ pub(crate) fn done(needed: &mut usize) -> u32
 /// An empty text, where all files can be loaded into one table.
 pub(crate) fn validity(alloc: Global, files: &[&[u8]]) -> Result<String, RunFault>
     ensures ok { IfOk result (λ text. IsValid (map (λ f. f.now) files.now) (string_bytes text)) }
-    ensures err { IfErr result (StopsTexts (map (λ f. f.now) files.now)) }
+    ensures err { IfErr result (λ e. (e ≡ RunFault.NoMemory) ⊎ StopsTexts (map (λ f. f.now) files.now) e) }
 {
     validate(alloc, files)?;
     Ok(String::new(alloc))

@@ -19,8 +19,8 @@ use Rattle.std.specs.Prelude.{Option, None, Some}
 use Rattle.std.proofs.raw_atomic.Walks.{proved_at, leaves}
 use Rattle.selqumar.specs.Boxed.{is_boxed}
 use Rattle.selqumar.specs.Slot.{owned_at}
-use Rattle.embed.specs.declared.loaded.Loaded.{Loaded}
-use Rattle.embed.specs.contracts.loaded.Loaded as table
+use Rattle.selqumar.specs.declared.pointee.Pointee.{Pointee}
+use Rattle.selqumar.specs.contracts.pointee.Pointee as pointee
 use Rattle.selqumar.specs.contracts.slot.Slot as slot
 use Rattle.selqumar.proofs.Pointers.{one, one_good, pointer_good, one_out, one_in}
 use Rattle.selqumar.specs.contracts.slot.Slot.into_pointer as f
@@ -28,7 +28,7 @@ use Rattle.selqumar.proofs.slot.Slot.into_pointer.Statement.{statement}
 use Rattle.selqumar.proofs.slot.Slot.into_pointer.Code as code
 
 -- what is there, where something is
-some_of : (t : Option Loaded) → t ≢ None → (x : Loaded) × (t ≡ Some x)
+some_of : (t : Option Pointee) → t ≢ None → (x : Pointee) × (t ≡ Some x)
 some_of None there = absurd (there refl)
 some_of (Some x) there = (x, refl)
 
@@ -39,13 +39,13 @@ into_pointer_spec 𝓤 𝓛 𝓜 𝓡 wired =
     proved_at 𝓛 En hs c 𝓜 𝓡 (Goes-dropped 𝓛 0 (plain (λ _. S)) yes (λ κs x f. refl), tt) f.Key.name fn (code.unfolded 𝓤 H 𝓜 𝓡 wired) (λ z are.
     let κs = z.0.0 in let s = z.0.3.0 in let p = s.pointer in
     let Post : Val → SProp 𝓤 = (walk_of 𝓛 En hs c).post z in let Run : List Val → SProp 𝓤 = λ ws. WpFn 𝓤 H 𝓣.C 𝓣.Λ fn ws Post in
-    qed 𝓛 ((raw (alive 𝓛 En.signature κs z.0.1) ⊛ ‵ (owns (types_at En.signature.params κs) z.0.3 z.0.4)) ∷ raw (fact 𝓤 (s.table ≢ None)) ∷ []) ∵
-    move ! (1 ∷ []) $ heard ! (s.table ≢ None) (λ there. let x = some_of s.table there in split ! $ move ! (1 ∷ []) $ fsplit ! $ fsplit ! $ one_out ! p z.0.4.0 (λ is.
-    rewrite ! 0 (λ (t : Option Loaded). ‵ (owned_at p t)) x.1 refl $
+    qed 𝓛 ((raw (alive 𝓛 En.signature κs z.0.1) ⊛ ‵ (owns (types_at En.signature.params κs) z.0.3 z.0.4)) ∷ raw (fact 𝓤 (s.pointee ≢ None)) ∷ []) ∵
+    move ! (1 ∷ []) $ heard ! (s.pointee ≢ None) (λ there. let x = some_of s.pointee there in split ! $ move ! (1 ∷ []) $ fsplit ! $ fsplit ! $ one_out ! p z.0.4.0 (λ is.
+    rewrite ! 0 (λ (t : Option Pointee). ‵ (owned_at p t)) x.1 refl $
     suffices ! (Run (one p ∷ [])) (subst (λ (us : List Val). ent 𝓤 (Run (one p ∷ [])) (Run us)) (sym (λ i. is i ++ [])) (id⊢ 𝓤 (Run (one p ∷ [])))) $
     enter ! 𝓣.C 𝓣.Λ fn (one p ∷ []) Post $ alloc_all ! (λ l. pass_all ! refl (one_good p, tt) $
     sets ! (of_opd ! (get_in ! (fld ! refl (stop !)) (sub ! 0 refl (whole !)))) refl (pointer_good p) $ sets ! (of_opd ! (get ! refl)) refl (pointer_good p) $
-    sets ! (agg ! (and_then ! (get ! refl) (no_more !))) refl (one_good p) $ use1 𝓛 (‵ (is_boxed table.the_row p x.0)) (id⊢ 𝓤 _) $ one_in ! p $ fjoin ! $
-    use0 𝓛 (raw (fact 𝓤 (s.table ≡ Some x.0))) (fact_i 𝓤 (s.table ≡ Some x.0) (emp 𝓤) x.1) $ nothing ! $ nothing ! $ fjoin ! $
+    sets ! (agg ! (and_then ! (get ! refl) (no_more !))) refl (one_good p) $ use1 𝓛 (‵ (is_boxed pointee.the_row p x.0)) (id⊢ 𝓤 _) $ one_in ! p $ fjoin ! $
+    use0 𝓛 (raw (fact 𝓤 (s.pointee ≡ Some x.0))) (fact_i 𝓤 (s.pointee ≡ Some x.0) (emp 𝓤) x.1) $ nothing ! $ nothing ! $ fjoin ! $
     -- [what is left of the parameter; the fact; the pointer's owner; nothing; the tokens]
     returns ! (look_at ! 0 refl) $ free_all ! refl $ keep ! (4 ∷ 0 ∷ 2 ∷ 1 ∷ []) $ by ! (leaves 𝓛 En hs c z (one p) (record { pointer = p; value = x.0 }) (_, tt) (tt, tt))))))

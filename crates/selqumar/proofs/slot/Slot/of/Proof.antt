@@ -18,8 +18,8 @@ use denote.Triple.Walked.{Stays, stay_dropped, walk_of, Goes-dropped}
 use Rattle.std.specs.Prelude.{Option, Some}
 use Rattle.std.proofs.raw_atomic.Walks.{proved_at, leaves}
 use Rattle.selqumar.specs.Slot.{owned_at}
-use Rattle.embed.specs.declared.loaded.Loaded.{Loaded}
-use Rattle.embed.specs.contracts.loaded.Loaded as table
+use Rattle.selqumar.specs.declared.pointee.Pointee.{Pointee}
+use Rattle.selqumar.specs.contracts.pointee.Pointee as pointee
 use Rattle.selqumar.specs.contracts.boxed.BoxPointer as pointer
 use Rattle.selqumar.proofs.Pointers.{one, one_good, pointer_good, one_out, one_in}
 use Rattle.selqumar.specs.contracts.slot.Slot.of as f
@@ -29,9 +29,9 @@ use Rattle.selqumar.proofs.slot.Slot.of.Code as code
 pub of_spec : {M : Type 1} → statement M
 of_spec 𝓤 𝓛 𝓜 𝓡 wired =
     let H = 𝓛.H in let 𝓣 = tables 𝓤 H 𝓜 𝓡 𝓡.env in let En = f.ended in let c = f.clauses 𝓛 𝓜.mem 𝓡.returns in let fn = code.function in
-    let K : RattleType = pointer.the_row table.the_row in let hs : Stays En.signature.params En.kept = (stay_dropped (plain (λ _. K)) yes, tt) in
+    let K : RattleType = pointer.the_row pointee.the_row in let hs : Stays En.signature.params En.kept = (stay_dropped (plain (λ _. K)) yes, tt) in
     proved_at 𝓛 En hs c 𝓜 𝓡 (Goes-dropped 𝓛 0 (plain (λ _. K)) yes (λ κs x f. refl), tt) f.Key.name fn (code.unfolded 𝓤 H 𝓜 𝓡 wired) (λ z are.
-    let κs = z.0.0 in let v = z.0.3.0 in let p = v.pointer in let x : Option Loaded = Some v.value in
+    let κs = z.0.0 in let v = z.0.3.0 in let p = v.pointer in let x : Option Pointee = Some v.value in
     let Post : Val → SProp 𝓤 = (walk_of 𝓛 En hs c).post z in let Run : List Val → SProp 𝓤 = λ ws. WpFn 𝓤 H 𝓣.C 𝓣.Λ fn ws Post in
     qed 𝓛 ((raw (alive 𝓛 En.signature κs z.0.1) ⊛ ‵ (owns (types_at En.signature.params κs) z.0.3 z.0.4)) ∷ raw ((c κs z.0.3).requires z.1) ∷ []) ∵
     split ! $ move ! (1 ∷ []) $ fsplit ! $ fsplit ! $ one_out ! p z.0.4.0 (λ is.
@@ -41,4 +41,4 @@ of_spec 𝓤 𝓛 𝓜 𝓡 wired =
     sets ! (agg ! (and_then ! (get ! refl) (no_more !))) refl (one_good p) $ use1 𝓛 (‵ (owned_at p x)) (id⊢ 𝓤 _) $ one_in ! p $ fjoin ! $
     use0 𝓛 (raw (fact 𝓤 (x ≡ x))) (fact_i 𝓤 (x ≡ x) (emp 𝓤) refl) $ nothing ! $ nothing ! $ fjoin ! $
     -- [what is left of the parameter; the fact; the slot; nothing; the tokens]
-    returns ! (look_at ! 0 refl) $ free_all ! refl $ keep ! (4 ∷ 0 ∷ 2 ∷ 1 ∷ []) $ by ! (leaves 𝓛 En hs c z (one p) (record { pointer = p; table = x }) (_, tt) (tt, tt)))))
+    returns ! (look_at ! 0 refl) $ free_all ! refl $ keep ! (4 ∷ 0 ∷ 2 ∷ 1 ∷ []) $ by ! (leaves 𝓛 En hs c z (one p) (record { pointer = p; pointee = x }) (_, tt) (tt, tt)))))
