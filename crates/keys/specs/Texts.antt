@@ -2,5 +2,5 @@
 use Rattle.std.specs.Prelude.{ℕ, ◌++◌, List}
 use Rattle.keys.specs.declared.key_texts.KeyTexts.{KeyTexts}
 
-abbrev pub all_texts : KeyTexts → List (List ℕ)
-all_texts t = t.common.now ++ t.own
+abbrev pub named_texts : KeyTexts → List (List ℕ)
+named_texts t = t.common.now ++ t.own

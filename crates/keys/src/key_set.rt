@@ -12,7 +12,7 @@ ghost use Rattle.keys.specs.Keys.{key_in};
 ghost use Rattle.keys.specs.Parts.{AreWithin, IsWithin, item_of_part, key_of_parts, keys_shown};
 ghost use Rattle.keys.specs.PartSets.{parts_shown};
 ghost use Rattle.keys.specs.Same.{same_key};
-ghost use Rattle.keys.specs.Texts.{all_texts};
+ghost use Rattle.keys.specs.Texts.{named_texts};
 
 use crate::columns::KeyColumns;
 use crate::key_texts::KeyTexts;
@@ -40,15 +40,15 @@ impl<'a> Model for KeySet<'a> {
     ghost use Rattle.arrays.specs.SeenCode.{items_code};
     ghost use Rattle.keys.specs.Parts.{AreWithin, keys_shown};
     ghost use Rattle.keys.specs.PartSets.{parts_shown};
-    ghost use Rattle.keys.specs.Texts.{all_texts};
+    ghost use Rattle.keys.specs.Texts.{named_texts};
 
     ghost Value = { List (List Item) };
 
     ghost coded = { coded_list items_code };
 
-    ghost view = { λ s. keys_shown (all_texts s.texts) (parts_shown s.keys) };
+    ghost view = { λ s. keys_shown (named_texts s.texts) (parts_shown s.keys) };
 
-    ghost invariant = { λ s. AreWithin (length (all_texts s.texts)) (parts_shown s.keys) };
+    ghost invariant = { λ s. AreWithin (length (named_texts s.texts)) (parts_shown s.keys) };
 }
 
 impl<'a> KeySet<'a> {
@@ -170,12 +170,12 @@ fn intern_parts(
     keys: &mut PartSet,
     parts: ArrayVec<Part, 4>,
 ) -> Result<usize, NoMemory>
-    requires named { All (IsWithin (length (all_texts texts.now))) parts.items }
-    requires within { AreWithin (length (all_texts texts.now)) (parts_shown keys.old) }
-    ensures keys { OnOk result (keys_shown (all_texts texts.now) (parts_shown keys.new)
-        ≡ insert_key same_key (keys_shown (all_texts texts.now) (parts_shown keys.old)) (key_of_parts (all_texts texts.now) parts.items)) }
-    ensures id { IfOk result (λ n. slice_get (keys_shown (all_texts texts.now) (parts_shown keys.new)) n ≡ Some (key_of_parts (all_texts texts.now) parts.items)) }
-    ensures within { AreWithin (length (all_texts texts.now)) (parts_shown keys.new) }
+    requires named { All (IsWithin (length (named_texts texts.now))) parts.items }
+    requires within { AreWithin (length (named_texts texts.now)) (parts_shown keys.old) }
+    ensures keys { OnOk result (keys_shown (named_texts texts.now) (parts_shown keys.new)
+        ≡ insert_key same_key (keys_shown (named_texts texts.now) (parts_shown keys.old)) (key_of_parts (named_texts texts.now) parts.items)) }
+    ensures id { IfOk result (λ n. slice_get (keys_shown (named_texts texts.now) (parts_shown keys.new)) n ≡ Some (key_of_parts (named_texts texts.now) parts.items)) }
+    ensures within { AreWithin (length (named_texts texts.now)) (parts_shown keys.new) }
 {
     keys.place_of(parts)
 }
@@ -183,12 +183,12 @@ fn intern_parts(
 /// The same of the key of this part alone.
 #[inline(always)]
 fn intern_part(texts: &KeyTexts<'_>, keys: &mut PartSet, part: Part) -> Result<usize, NoMemory>
-    requires named { IsWithin (length (all_texts texts.now)) part }
-    requires within { AreWithin (length (all_texts texts.now)) (parts_shown keys.old) }
-    ensures keys { OnOk result (keys_shown (all_texts texts.now) (parts_shown keys.new)
-        ≡ insert_key same_key (keys_shown (all_texts texts.now) (parts_shown keys.old)) (item_of_part (all_texts texts.now) part ∷ [])) }
-    ensures id { IfOk result (λ n. slice_get (keys_shown (all_texts texts.now) (parts_shown keys.new)) n ≡ Some (item_of_part (all_texts texts.now) part ∷ [])) }
-    ensures within { AreWithin (length (all_texts texts.now)) (parts_shown keys.new) }
+    requires named { IsWithin (length (named_texts texts.now)) part }
+    requires within { AreWithin (length (named_texts texts.now)) (parts_shown keys.old) }
+    ensures keys { OnOk result (keys_shown (named_texts texts.now) (parts_shown keys.new)
+        ≡ insert_key same_key (keys_shown (named_texts texts.now) (parts_shown keys.old)) (item_of_part (named_texts texts.now) part ∷ [])) }
+    ensures id { IfOk result (λ n. slice_get (keys_shown (named_texts texts.now) (parts_shown keys.new)) n ≡ Some (item_of_part (named_texts texts.now) part ∷ [])) }
+    ensures within { AreWithin (length (named_texts texts.now)) (parts_shown keys.new) }
 {
     keys.place_of_part(part)
 }
@@ -199,8 +199,8 @@ fn items_of(
     texts: &KeyTexts<'_>,
     parts: &[Part],
 ) -> Result<Vec<Option<Scalar>>, NoMemory>
-    requires { All (IsWithin (length (all_texts texts.now))) parts.now }
-    ensures { IfOk result (λ v. map item_of_scalar v.items ≡ key_of_parts (all_texts texts.now) parts.now) }
+    requires { All (IsWithin (length (named_texts texts.now))) parts.now }
+    ensures { IfOk result (λ v. map item_of_scalar v.items ≡ key_of_parts (named_texts texts.now) parts.now) }
 {
     let mut items = Vec::with_capacity(alloc, parts.len())?;
     for part in parts {
@@ -211,8 +211,8 @@ fn items_of(
 
 /// The item that a part stands for; none is null.
 fn item_of(alloc: Global, texts: &KeyTexts<'_>, part: Part) -> Result<Option<Scalar>, NoMemory>
-    requires { IsWithin (length (all_texts texts.now)) part }
-    ensures { IfOk result (λ s. item_of_scalar s ≡ item_of_part (all_texts texts.now) part) }
+    requires { IsWithin (length (named_texts texts.now)) part }
+    ensures { IfOk result (λ s. item_of_scalar s ≡ item_of_part (named_texts texts.now) part) }
 {
     value_of(texts, part).to_scalar(alloc)
 }
@@ -224,9 +224,9 @@ fn parts_of(
     row: usize,
 ) -> Result<ArrayVec<Part, 4>, NoMemory>
     requires within { row < columns.now.batch.now.rows }
-    ensures key { IfOk result (λ k. key_of_parts (all_texts texts.new) k.items ≡ key_in columns.now row) }
-    ensures within { IfOk result (λ k. All (IsWithin (length (all_texts texts.new))) k.items) }
-    ensures begins { IsPrefix (all_texts texts.old) (all_texts texts.new) }
+    ensures key { IfOk result (λ k. key_of_parts (named_texts texts.new) k.items ≡ key_in columns.now row) }
+    ensures within { IfOk result (λ k. All (IsWithin (length (named_texts texts.new))) k.items) }
+    ensures begins { IsPrefix (named_texts texts.old) (named_texts texts.new) }
 {
     let mut parts = ArrayVec::new();
     for place in columns.by {
@@ -243,10 +243,10 @@ fn renamed_parts(
     parts: &[Part],
 ) -> Result<ArrayVec<Part, 4>, NoMemory>
     requires few { length parts.now ≤ 4 }
-    requires named { All (IsWithin (length (all_texts others.now))) parts.now }
-    ensures key { IfOk result (λ k. key_of_parts (all_texts texts.new) k.items ≡ key_of_parts (all_texts others.now) parts.now) }
-    ensures within { IfOk result (λ k. All (IsWithin (length (all_texts texts.new))) k.items) }
-    ensures begins { IsPrefix (all_texts texts.old) (all_texts texts.new) }
+    requires named { All (IsWithin (length (named_texts others.now))) parts.now }
+    ensures key { IfOk result (λ k. key_of_parts (named_texts texts.new) k.items ≡ key_of_parts (named_texts others.now) parts.now) }
+    ensures within { IfOk result (λ k. All (IsWithin (length (named_texts texts.new))) k.items) }
+    ensures begins { IsPrefix (named_texts texts.old) (named_texts texts.new) }
 {
     let mut renamed = ArrayVec::new();
     for part in parts {
@@ -263,10 +263,10 @@ fn renamed_part(
     others: &KeyTexts<'_>,
     part: Part,
 ) -> Result<Part, NoMemory>
-    requires { IsWithin (length (all_texts others.now)) part }
-    ensures item { IfOk result (λ p. item_of_part (all_texts texts.new) p ≡ item_of_part (all_texts others.now) part) }
-    ensures within { IfOk result (λ p. IsWithin (length (all_texts texts.new)) p) }
-    ensures begins { IsPrefix (all_texts texts.old) (all_texts texts.new) }
+    requires { IsWithin (length (named_texts others.now)) part }
+    ensures item { IfOk result (λ p. item_of_part (named_texts texts.new) p ≡ item_of_part (named_texts others.now) part) }
+    ensures within { IfOk result (λ p. IsWithin (length (named_texts texts.new)) p) }
+    ensures begins { IsPrefix (named_texts texts.old) (named_texts texts.new) }
 {
     match part {
         Part::Null => Ok(Part::Null),
@@ -281,8 +281,8 @@ fn renamed_part(
 
 /// The item that a part stands for.
 fn value_of<'b>(texts: &'b KeyTexts<'_>, part: Part) -> ScalarRef<'b>
-    requires { IsWithin (length (all_texts texts.now)) part }
-    ensures { item_of_ref result ≡ item_of_part (all_texts texts.now) part }
+    requires { IsWithin (length (named_texts texts.now)) part }
+    ensures { item_of_ref result ≡ item_of_part (named_texts texts.now) part }
 {
     match part {
         Part::Null => ScalarRef::Null,
@@ -297,9 +297,9 @@ fn value_of<'b>(texts: &'b KeyTexts<'_>, part: Part) -> ScalarRef<'b>
 
 /// The part that stands for an item. Its text is among the texts then.
 fn part_of(texts: &mut KeyTexts<'_>, value: ScalarRef<'_>) -> Result<Part, NoMemory>
-    ensures item { IfOk result (λ p. item_of_part (all_texts texts.new) p ≡ item_of_ref value.entry) }
-    ensures within { IfOk result (λ p. IsWithin (length (all_texts texts.new)) p) }
-    ensures begins { IsPrefix (all_texts texts.old) (all_texts texts.new) }
+    ensures item { IfOk result (λ p. item_of_part (named_texts texts.new) p ≡ item_of_ref value.entry) }
+    ensures within { IfOk result (λ p. IsWithin (length (named_texts texts.new)) p) }
+    ensures begins { IsPrefix (named_texts texts.old) (named_texts texts.new) }
 {
     match value {
         ScalarRef::Null => Ok(Part::Null),
@@ -316,9 +316,9 @@ fn likely_part(
     text: Option<&str>,
     likely: usize,
 ) -> Result<Part, NoMemory>
-    ensures item { IfOk result (λ p. item_of_part (all_texts texts.new) p ≡ item_of_text (option_copied text.entry)) }
-    ensures within { IfOk result (λ p. IsWithin (length (all_texts texts.new)) p) }
-    ensures begins { IsPrefix (all_texts texts.old) (all_texts texts.new) }
+    ensures item { IfOk result (λ p. item_of_part (named_texts texts.new) p ≡ item_of_text (option_copied text.entry)) }
+    ensures within { IfOk result (λ p. IsWithin (length (named_texts texts.new)) p) }
+    ensures begins { IsPrefix (named_texts texts.old) (named_texts texts.new) }
 {
     match text {
         Some(text) => Ok(Part::Text(texts.add_likely(text, likely)?)),

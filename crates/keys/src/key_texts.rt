@@ -25,11 +25,11 @@ pub(crate) struct KeyTexts<'a> {
 }
 
 impl<'a> KeyTexts<'a> {
-    ghost use Rattle.keys.specs.Texts.{all_texts};
+    ghost use Rattle.keys.specs.Texts.{named_texts};
 
     /// The common ones alone.
     pub(crate) fn new(alloc: Global, common: &'a TextSet) -> KeyTexts<'a>
-        ensures { all_texts result ≡ common.now }
+        ensures { named_texts result ≡ common.now }
     {
         KeyTexts {
             common,
@@ -40,7 +40,7 @@ impl<'a> KeyTexts<'a> {
 
     /// The text at a place, none past the end.
     pub(crate) fn text_at(&self, place: usize) -> Option<&str>
-        ensures { option_copied result ≡ slice_get (all_texts self.now) place }
+        ensures { option_copied result ≡ slice_get (named_texts self.now) place }
     {
         if place < self.common_len {
             self.common.text_at(place)
@@ -51,8 +51,8 @@ impl<'a> KeyTexts<'a> {
 
     /// The place of a text, which is put at the end where it is new. It is likely to be this one.
     pub(crate) fn add_likely(&mut self, text: &str, place: usize) -> Result<usize, NoMemory>
-        ensures place { IfOk result (λ n. slice_get (all_texts self.new) n ≡ Some text.now) }
-        ensures begins { IsPrefix (all_texts self.old) (all_texts self.new) }
+        ensures place { IfOk result (λ n. slice_get (named_texts self.new) n ≡ Some text.now) }
+        ensures begins { IsPrefix (named_texts self.old) (named_texts self.new) }
     {
         if self.text_at(place) == Some(text) {
             return Ok(place);
@@ -62,8 +62,8 @@ impl<'a> KeyTexts<'a> {
 
     /// The place of a text, which is put at the end where it is new.
     pub(crate) fn add(&mut self, text: &str) -> Result<usize, NoMemory>
-        ensures place { IfOk result (λ n. slice_get (all_texts self.new) n ≡ Some text.now) }
-        ensures begins { IsPrefix (all_texts self.old) (all_texts self.new) }
+        ensures place { IfOk result (λ n. slice_get (named_texts self.new) n ≡ Some text.now) }
+        ensures begins { IsPrefix (named_texts self.old) (named_texts self.new) }
     {
         match self.place_of(text) {
             Some(place) => Ok(place),
@@ -73,8 +73,8 @@ impl<'a> KeyTexts<'a> {
 
     /// The place of a text, none where it isn't there.
     fn place_of(&self, text: &str) -> Option<usize>
-        ensures there { ForSome result (λ n. slice_get (all_texts self.now) n ≡ Some text.now) }
-        ensures absent { result ≡ None → list_any (bytes_eq text.now) (all_texts self.now) ≡ false }
+        ensures there { ForSome result (λ n. slice_get (named_texts self.now) n ≡ Some text.now) }
+        ensures absent { result ≡ None → list_any (bytes_eq text.now) (named_texts self.now) ≡ false }
     {
         if let Some(place) = self.common.place_of(text) {
             return Some(place);
@@ -85,9 +85,9 @@ impl<'a> KeyTexts<'a> {
 
     /// Puts a text at the end that isn't there, and tells its place.
     fn add_new(&mut self, text: &str) -> Result<usize, NoMemory>
-        requires { list_any (bytes_eq text.now) (all_texts self.old) ≡ false }
-        ensures place { IfOk result (λ n. slice_get (all_texts self.new) n ≡ Some text.now) }
-        ensures begins { IsPrefix (all_texts self.old) (all_texts self.new) }
+        requires { list_any (bytes_eq text.now) (named_texts self.old) ≡ false }
+        ensures place { IfOk result (λ n. slice_get (named_texts self.new) n ≡ Some text.now) }
+        ensures begins { IsPrefix (named_texts self.old) (named_texts self.new) }
     {
         let place = self.common_len + self.own.len();
         self.own.add_new(text)?;

@@ -1,6 +1,7 @@
 -- What refuses a batch before its texts are looked at.
-use Rattle.std.proofs.Common.{◌≡◌, ◌∙◌, ◌||◌, ℕ, ◌+◌, ◌-◌, ◌<◌, ◌≤◌, ◌^◌, List, [], ◌∷◌, length, map, not, Bool, true, false, cond, eqb, Option, Some, None, option_map, position, ap, sym, refl, subst, arith, eq-eqb, lt-ltb, le-ltb}
+use Rattle.std.proofs.Common.{◌≡◌, ◌∙◌, ◌||◌, ℕ, ◌+◌, ◌-◌, ◌<◌, ◌≤◌, ◌^◌, List, [], ◌∷◌, length, map, not, Bool, true, false, cond, eqb, Option, Some, None, option_map, position, ap, ap₂, sym, refl, subst, arith, eq-eqb, lt-ltb, le-ltb}
 use Rattle.std.specs.Prelude.{string_bytes}
+use Rattle.std.specs.Bool.{then_some}
 use Rattle.std.specs.List.{zip}
 use Rattle.std.specs.Str.{bytes_eq}
 use Rattle.std.proofs.lemmas.Bool.{ne_eqb}
@@ -11,14 +12,13 @@ use Rattle.arrays.specs.Shape.{FieldShape, Shape, field_of, field_step, fields_o
 use Rattle.arrays.specs.Field.{Field, fold_out-Field, out-Field}
 use Rattle.arrays.proofs.SchemaLemmas.{position-map}
 use Rattle.arrays.proofs.ShapeLemmas.{kind_of_field-field_of}
-use Rattle.std.specs.Bool.{then_some}
 use Rattle.arrays.specs.First.{first}
-use Rattle.table.specs.Cause.{difference, differs, early_cause, is_book_full, is_table_full, null_cause}
+use Rattle.table.specs.Cause.{difference, differs, is_book_full, is_table_full, null_cause}
 use Rattle.table.specs.Columns.{HasColumns}
 use Rattle.table.specs.History.{History, rows}
 use Rattle.table.specs.Stored.{is_stored_as, stored_kind}
 use Rattle.table.specs.declared.refusal.Refusal.{Refusal}
-use Rattle.table.specs.declared.refusal.Refusal.TheVariants.{BookFull, SchemaDiffers, TableFull}
+use Rattle.table.specs.declared.refusal.Refusal.TheVariants.{BookFull, TableFull}
 use Rattle.table.proofs.BatchLemmas.{HasColumns-rows_of}
 use Rattle.arrays.proofs.BatchLemmas.{length-rows_of}
 
@@ -70,19 +70,14 @@ difference-many stored handed k none other size =
 
 -- ---- one refusal after the other
 
-abbrev causes : Option ℕ → Option Refusal → Bool → Bool → Option Refusal
-causes column nulls full book = first (option_map (λ c. SchemaDiffers c) column ∷ nulls ∷ then_some full TableFull ∷ then_some book BookFull ∷ [])
+pub first-one : (a : Option Refusal) → a ≡ first (a ∷ [])
+first-one (Some x) = refl
+first-one None = refl
 
-pub early-by : (fields : List FieldShape) (h : History) (b : Batch) (column : Option ℕ) (nulls : Option Refusal) (full book : Bool) → column ≡ difference fields b.fields
-    → nulls ≡ null_cause fields (rows_of b) → is_table_full h (rows_of b) ≡ full → is_book_full h ≡ book → causes column nulls full book ≡ early_cause fields h b
-early-by fields h b column nulls full book column_is nulls_is full_is book_is =
-    ap (λ o. causes o nulls full book) column_is
-    ∙ ap (λ o. causes (difference fields b.fields) o full book) nulls_is
-    ∙ ap (λ t. causes (difference fields b.fields) (null_cause fields (rows_of b)) t book) (sym full_is)
-    ∙ ap (λ t. causes (difference fields b.fields) (null_cause fields (rows_of b)) (is_table_full h (rows_of b)) t) (sym book_is)
-
-pub column-reported : (fields stored handed : List FieldShape) (b : Batch) (o : Option ℕ) → stored ≡ fields → handed ≡ b.fields → o ≡ difference stored handed → o ≡ difference fields b.fields
-column-reported fields stored handed b o these those is = is ∙ ap (λ f. difference f handed) these ∙ ap (difference fields) those
+-- what there is too many of
+pub excess-by : (h : History) (t : Table) (full book : Bool) → is_table_full h t ≡ full → is_book_full h ≡ book
+    → first (then_some full TableFull ∷ then_some book BookFull ∷ []) ≡ first (then_some (is_table_full h t) TableFull ∷ then_some (is_book_full h) BookFull ∷ [])
+excess-by h t full book full_is book_is = ap₂ (λ p q. first (then_some p TableFull ∷ then_some q BookFull ∷ [])) (sym full_is) (sym book_is)
 
 -- the first null of the columns is that of the batch's rows
 pub nulls-reported : (fields given : List FieldShape) (b : Batch) (columns : List Seen) (o : Option Refusal) → batch_fault b.fields b.rows b.columns ≡ None → given ≡ fields → columns ≡ b.columns

@@ -1,3 +1,6 @@
+ghost use Rattle.std.specs.Prelude.{◌≡◌};
+ghost use Rattle.table.specs.declared.add_fault.AddFault.TheVariants as faults;
+
 use arrays::NoMemory;
 use std::alloc::{AllocError, AllocFailed};
 use thiserror::Error;
@@ -20,10 +23,7 @@ pub enum AddFault {
 }
 
 impl From<NoMemory> for AddFault {
-    ghost use Rattle.std.specs.Prelude.{◌≡◌};
-    ghost use Rattle.table.specs.declared.add_fault.AddFault.TheVariants as fault;
-
-    ghost from_gives = { λ _ e. e ≡ fault.NoMemory };
+    ghost from_gives = { λ _ e. e ≡ faults.NoMemory };
 
     fn from(_: NoMemory) -> AddFault {
         AddFault::NoMemory
@@ -31,10 +31,7 @@ impl From<NoMemory> for AddFault {
 }
 
 impl From<AllocError> for AddFault {
-    ghost use Rattle.std.specs.Prelude.{◌≡◌};
-    ghost use Rattle.table.specs.declared.add_fault.AddFault.TheVariants as fault;
-
-    ghost from_gives = { λ _ e. e ≡ fault.NoMemory };
+    ghost from_gives = { λ _ e. e ≡ faults.NoMemory };
 
     fn from(_: AllocError) -> AddFault {
         AddFault::NoMemory
@@ -42,10 +39,7 @@ impl From<AllocError> for AddFault {
 }
 
 impl<T: Drop> From<AllocFailed<T>> for AddFault {
-    ghost use Rattle.std.specs.Prelude.{◌≡◌};
-    ghost use Rattle.table.specs.declared.add_fault.AddFault.TheVariants as fault;
-
-    ghost from_gives = { λ _ e. e ≡ fault.NoMemory };
+    ghost from_gives = { λ _ e. e ≡ faults.NoMemory };
 
     fn from(_: AllocFailed<T>) -> AddFault {
         AddFault::NoMemory

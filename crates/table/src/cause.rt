@@ -1,10 +1,13 @@
 //! Why a batch isn't admitted, as far as is known before its texts are looked at.
 
-ghost use Rattle.std.specs.Prelude.{◌≡◌, position, ◌||◌};
+ghost use Rattle.std.specs.Prelude.{◌≡◌, ◌∷◌, [], option_map, position, ◌||◌};
 ghost use Rattle.std.specs.Arc.{arc_value};
+ghost use Rattle.std.specs.Bool.{then_some};
 ghost use Rattle.std.specs.List.{zip};
 ghost use Rattle.arrays.specs.Shape.{field_of};
-ghost use Rattle.table.specs.Cause.{difference, differs, early_cause};
+ghost use Rattle.arrays.specs.Batch.{rows_of};
+ghost use Rattle.arrays.specs.First.{first};
+ghost use Rattle.table.specs.Cause.{difference, differs, early_cause, is_book_full, is_table_full, null_cause};
 ghost use Rattle.table.specs.Storage.{IsConsistent, show};
 ghost use Rattle.table.specs.Stored.{is_stored_as};
 
@@ -24,12 +27,28 @@ pub(crate) fn early_refusal(storage: &Storage, batch: &RecordBatch) -> Option<Re
     requires { IsConsistent storage.now }
     ensures { result ≡ early_cause (arc_value storage.now.schema) (show storage.now).history batch.now }
 {
-    if let Some(column) = schema_difference(&storage.schema, batch.schema()) {
+    match misfit(&storage.schema, batch) {
+        Some(refusal) => Some(refusal),
+        None => excess(storage, batch),
+    }
+}
+
+/// What of the batch doesn't fit the table's schema: its fields, else a null.
+fn misfit(schema: &Schema, batch: &RecordBatch) -> Option<Refusal>
+    ensures { result ≡ first (option_map (λ k. Refusal.SchemaDiffers k) (difference schema.now batch.now.fields) ∷ null_cause schema.now (rows_of batch.now) ∷ []) }
+{
+    if let Some(column) = schema_difference(schema, batch.schema()) {
         return Some(Refusal::SchemaDiffers { column });
     }
-    if let Some(refusal) = null_refusal(storage.schema.fields(), batch.columns()) {
-        return Some(refusal);
-    }
+    null_refusal(schema.fields(), batch.columns())
+}
+
+/// What the table would have too many of: rows, else calls.
+fn excess(storage: &Storage, batch: &RecordBatch) -> Option<Refusal>
+    requires { IsConsistent storage.now }
+    ensures { result ≡ first (then_some (is_table_full (show storage.now).history (rows_of batch.now)) Refusal.TableFull
+        ∷ then_some (is_book_full (show storage.now).history) Refusal.BookFull ∷ []) }
+{
     if storage.rows + u64::from(batch.rows()) > MOST_ROWS {
         return Some(Refusal::TableFull);
     }

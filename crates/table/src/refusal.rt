@@ -1,3 +1,6 @@
+ghost use Rattle.std.specs.Prelude.{◌≡◌};
+ghost use Rattle.table.specs.declared.refusal.Refusal.TheVariants as refusals;
+
 use arrays::NoMemory;
 use std::alloc::{AllocError, AllocFailed};
 use thiserror::Error;
@@ -27,10 +30,7 @@ pub enum Refusal {
 }
 
 impl From<NoMemory> for Refusal {
-    ghost use Rattle.std.specs.Prelude.{◌≡◌};
-    ghost use Rattle.table.specs.declared.refusal.Refusal.TheVariants as refusal;
-
-    ghost from_gives = { λ _ e. e ≡ refusal.NoMemory };
+    ghost from_gives = { λ _ e. e ≡ refusals.NoMemory };
 
     fn from(_: NoMemory) -> Refusal {
         Refusal::NoMemory
@@ -38,10 +38,7 @@ impl From<NoMemory> for Refusal {
 }
 
 impl From<AllocError> for Refusal {
-    ghost use Rattle.std.specs.Prelude.{◌≡◌};
-    ghost use Rattle.table.specs.declared.refusal.Refusal.TheVariants as refusal;
-
-    ghost from_gives = { λ _ e. e ≡ refusal.NoMemory };
+    ghost from_gives = { λ _ e. e ≡ refusals.NoMemory };
 
     fn from(_: AllocError) -> Refusal {
         Refusal::NoMemory
@@ -49,10 +46,7 @@ impl From<AllocError> for Refusal {
 }
 
 impl<T: Drop> From<AllocFailed<T>> for Refusal {
-    ghost use Rattle.std.specs.Prelude.{◌≡◌};
-    ghost use Rattle.table.specs.declared.refusal.Refusal.TheVariants as refusal;
-
-    ghost from_gives = { λ _ e. e ≡ refusal.NoMemory };
+    ghost from_gives = { λ _ e. e ≡ refusals.NoMemory };
 
     fn from(_: AllocFailed<T>) -> Refusal {
         Refusal::NoMemory

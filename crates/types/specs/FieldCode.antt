@@ -14,26 +14,26 @@ use Rattle.types.specs.Shape.{Shape, FieldShape, field}
 
 -- ---- kinds, as the widths of the lists in one another and what is inside
 
-abbrev width_number : Width → ℕ
-width_number W8 = 0
-width_number W16 = 1
-width_number W32 = 2
-width_number W64 = 3
+abbrev width_code : Width → ℕ
+width_code W8 = 0
+width_code W16 = 1
+width_code W32 = 2
+width_code W64 = 3
 
-abbrev width_of : ℕ → Width
-width_of zero = W8
-width_of (suc zero) = W16
-width_of (suc (suc zero)) = W32
-width_of (suc (suc (suc n))) = W64
+abbrev width_of_code : ℕ → Width
+width_of_code zero = W8
+width_of_code (suc zero) = W16
+width_of_code (suc (suc zero)) = W32
+width_of_code (suc (suc (suc n))) = W64
 
-pub width_again : (w : Width) → width_of (width_number w) ≡ w
+pub width_again : (w : Width) → width_of_code (width_code w) ≡ w
 width_again W8 = refl
 width_again W16 = refl
 width_again W32 = refl
 width_again W64 = refl
 
 abbrev pub int_code : Coded IntType
-int_code = code_by (ℕ × Bool) (coded× coded_ℕ coded_bool) (λ t. (width_number t.bits, t.signed)) (λ p. record { bits = width_of p.0; signed = p.1 }) (λ t. ap (λ w. record { bits = w; signed = t.signed }) (width_again t.bits))
+int_code = code_by (ℕ × Bool) (coded× coded_ℕ coded_bool) (λ t. (width_code t.bits, t.signed)) (λ p. record { bits = width_of_code p.0; signed = p.1 }) (λ t. ap (λ w. record { bits = w; signed = t.signed }) (width_again t.bits))
 
 abbrev offset_number : OffsetWidth → ℕ
 offset_number Narrow = 0

@@ -1,14 +1,6 @@
-use Rattle.std.proofs.Common.{◌∙◌, FitsSigned, [], ap, arith, get_or, rules}
-use Rattle.std.specs.Int.{w8, cast_signed, from_le_bytes}
-use Rattle.std.proofs.lemmas.Int.{to_z-of_z}
-use Rattle.types.specs.Number.{number_at}
-use Rattle.types.proofs.IntegerLemmas.{row_is}
+use Rattle.std.proofs.Common.{arith, rules}
+use Rattle.types.proofs.IntegerLemmas.{signed_row}
 use Rattle.types.proofs.integer.I8Integer.read.Goals as goal
 
 pub returns : goal.returns
-unfolding number_at
-returns c =
-    let fits : FitsSigned w8 c.from_le_bytes.result = search rules in
-    to_z-of_z w8 _ fits
-    ∙ c.from_le_bytes.ensures
-    ∙ ap (λ row. cast_signed w8 (from_le_bytes w8 row)) (ap (λ rows. get_or rows c.args.j []) c.as_chunks.ensures.front ∙ row_is 1 _ c.args.j c.args.numbers.now (omega arith))
+returns c = signed_row _ c.args.j c.args.numbers.now _ _ (search rules) c.from_le_bytes.ensures c.as_chunks.ensures.front (omega arith)
