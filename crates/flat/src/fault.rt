@@ -1,3 +1,6 @@
+ghost use Rattle.std.specs.Prelude.{◌≡◌};
+ghost use Rattle.flat.specs.declared.fault.FlatFault.TheVariants as faults;
+
 use arrays::{BatchFault, LayoutFault, NoMemory, SchemaFault};
 use std::alloc::{AllocError, AllocFailed};
 use thiserror::Error;
@@ -35,11 +38,16 @@ pub enum FlatFault {
     NoMemory,
 }
 
-impl From<AllocError> for FlatFault {
-    ghost use Rattle.std.specs.Prelude.{◌≡◌};
-    ghost use Rattle.flat.specs.declared.fault.FlatFault.TheVariants as fault;
+impl From<NoMemory> for FlatFault {
+    ghost from_gives = { λ _ e. e ≡ faults.NoMemory };
 
-    ghost from_gives = { λ _ e. e ≡ fault.NoMemory };
+    fn from(_: NoMemory) -> FlatFault {
+        FlatFault::NoMemory
+    }
+}
+
+impl From<AllocError> for FlatFault {
+    ghost from_gives = { λ _ e. e ≡ faults.NoMemory };
 
     fn from(_: AllocError) -> FlatFault {
         FlatFault::NoMemory
@@ -47,23 +55,9 @@ impl From<AllocError> for FlatFault {
 }
 
 impl<T: Drop> From<AllocFailed<T>> for FlatFault {
-    ghost use Rattle.std.specs.Prelude.{◌≡◌};
-    ghost use Rattle.flat.specs.declared.fault.FlatFault.TheVariants as fault;
-
-    ghost from_gives = { λ _ e. e ≡ fault.NoMemory };
+    ghost from_gives = { λ _ e. e ≡ faults.NoMemory };
 
     fn from(_: AllocFailed<T>) -> FlatFault {
-        FlatFault::NoMemory
-    }
-}
-
-impl From<NoMemory> for FlatFault {
-    ghost use Rattle.std.specs.Prelude.{◌≡◌};
-    ghost use Rattle.flat.specs.declared.fault.FlatFault.TheVariants as fault;
-
-    ghost from_gives = { λ _ e. e ≡ fault.NoMemory };
-
-    fn from(_: NoMemory) -> FlatFault {
         FlatFault::NoMemory
     }
 }

@@ -1,3 +1,6 @@
+ghost use Rattle.std.specs.Prelude.{◌≡◌};
+ghost use Rattle.pool.specs.declared.fault.PoolFault.TheVariants as faults;
+
 use arrays::NoMemory;
 use std::alloc::{AllocError, AllocFailed};
 use thiserror::Error;
@@ -14,10 +17,7 @@ pub enum PoolFault {
 }
 
 impl From<NoMemory> for PoolFault {
-    ghost use Rattle.std.specs.Prelude.{◌≡◌};
-    ghost use Rattle.pool.specs.declared.fault.PoolFault.TheVariants as fault;
-
-    ghost from_gives = { λ _ e. e ≡ fault.NoMemory };
+    ghost from_gives = { λ _ e. e ≡ faults.NoMemory };
 
     fn from(_: NoMemory) -> PoolFault {
         PoolFault::NoMemory
@@ -25,10 +25,7 @@ impl From<NoMemory> for PoolFault {
 }
 
 impl From<AllocError> for PoolFault {
-    ghost use Rattle.std.specs.Prelude.{◌≡◌};
-    ghost use Rattle.pool.specs.declared.fault.PoolFault.TheVariants as fault;
-
-    ghost from_gives = { λ _ e. e ≡ fault.NoMemory };
+    ghost from_gives = { λ _ e. e ≡ faults.NoMemory };
 
     fn from(_: AllocError) -> PoolFault {
         PoolFault::NoMemory
@@ -36,10 +33,7 @@ impl From<AllocError> for PoolFault {
 }
 
 impl<T: Drop> From<AllocFailed<T>> for PoolFault {
-    ghost use Rattle.std.specs.Prelude.{◌≡◌};
-    ghost use Rattle.pool.specs.declared.fault.PoolFault.TheVariants as fault;
-
-    ghost from_gives = { λ _ e. e ≡ fault.NoMemory };
+    ghost from_gives = { λ _ e. e ≡ faults.NoMemory };
 
     fn from(_: AllocFailed<T>) -> PoolFault {
         PoolFault::NoMemory

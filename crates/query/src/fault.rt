@@ -1,4 +1,5 @@
 ghost use Rattle.std.specs.Prelude.{◌≡◌, IfOk, string_bytes};
+ghost use Rattle.query.specs.declared.fault.QueryFault.TheVariants as faults;
 ghost use Rattle.query.specs.FaultText.{query_fault_text};
 
 use colbits::NoMemory;
@@ -30,10 +31,7 @@ pub enum QueryFault {
 }
 
 impl From<NoMemory> for QueryFault {
-    ghost use Rattle.std.specs.Prelude.{◌≡◌};
-    ghost use Rattle.query.specs.declared.fault.QueryFault.TheVariants as fault;
-
-    ghost from_gives = { λ _ e. e ≡ fault.NoMemory };
+    ghost from_gives = { λ _ e. e ≡ faults.NoMemory };
 
     fn from(_: NoMemory) -> QueryFault {
         QueryFault::NoMemory
@@ -41,10 +39,7 @@ impl From<NoMemory> for QueryFault {
 }
 
 impl From<AllocError> for QueryFault {
-    ghost use Rattle.std.specs.Prelude.{◌≡◌};
-    ghost use Rattle.query.specs.declared.fault.QueryFault.TheVariants as fault;
-
-    ghost from_gives = { λ _ e. e ≡ fault.NoMemory };
+    ghost from_gives = { λ _ e. e ≡ faults.NoMemory };
 
     fn from(_: AllocError) -> QueryFault {
         QueryFault::NoMemory
@@ -52,10 +47,7 @@ impl From<AllocError> for QueryFault {
 }
 
 impl<T: Drop> From<AllocFailed<T>> for QueryFault {
-    ghost use Rattle.std.specs.Prelude.{◌≡◌};
-    ghost use Rattle.query.specs.declared.fault.QueryFault.TheVariants as fault;
-
-    ghost from_gives = { λ _ e. e ≡ fault.NoMemory };
+    ghost from_gives = { λ _ e. e ≡ faults.NoMemory };
 
     fn from(_: AllocFailed<T>) -> QueryFault {
         QueryFault::NoMemory

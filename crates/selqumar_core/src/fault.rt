@@ -1,5 +1,8 @@
 //! One fault for all that a program does with the library.
 
+ghost use Rattle.std.specs.Prelude.{◌≡◌};
+ghost use Rattle.selqumar_core.specs.declared.fault.Fault.TheVariants as faults;
+
 use arrays::{BatchFault, BuildFault, NoMemory, SchemaFault};
 use arrow_json::JsonFault;
 use loads::LoadFault;
@@ -50,18 +53,24 @@ pub enum Fault {
 }
 
 impl From<NoMemory> for Fault {
+    ghost from_gives = { λ _ e. e ≡ faults.NoMemory };
+
     fn from(_: NoMemory) -> Fault {
         Fault::NoMemory
     }
 }
 
 impl From<AllocError> for Fault {
+    ghost from_gives = { λ _ e. e ≡ faults.NoMemory };
+
     fn from(_: AllocError) -> Fault {
         Fault::NoMemory
     }
 }
 
 impl<T: Drop> From<AllocFailed<T>> for Fault {
+    ghost from_gives = { λ _ e. e ≡ faults.NoMemory };
+
     fn from(_: AllocFailed<T>) -> Fault {
         Fault::NoMemory
     }

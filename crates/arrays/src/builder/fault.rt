@@ -1,3 +1,6 @@
+ghost use Rattle.std.specs.Prelude.{◌≡◌};
+ghost use Rattle.arrays.specs.declared.builder.fault.BuildFault.TheVariants as faults;
+
 use colbits::NoMemory;
 use std::alloc::{AllocError, AllocFailed};
 use thiserror::Error;
@@ -14,10 +17,7 @@ pub enum BuildFault {
 }
 
 impl From<NoMemory> for BuildFault {
-    ghost use Rattle.std.specs.Prelude.{◌≡◌};
-    ghost use Rattle.arrays.specs.declared.builder.fault.BuildFault.TheVariants as fault;
-
-    ghost from_gives = { λ _ e. e ≡ fault.NoMemory };
+    ghost from_gives = { λ _ e. e ≡ faults.NoMemory };
 
     fn from(_: NoMemory) -> BuildFault {
         BuildFault::NoMemory
@@ -25,10 +25,7 @@ impl From<NoMemory> for BuildFault {
 }
 
 impl From<AllocError> for BuildFault {
-    ghost use Rattle.std.specs.Prelude.{◌≡◌};
-    ghost use Rattle.arrays.specs.declared.builder.fault.BuildFault.TheVariants as fault;
-
-    ghost from_gives = { λ _ e. e ≡ fault.NoMemory };
+    ghost from_gives = { λ _ e. e ≡ faults.NoMemory };
 
     fn from(_: AllocError) -> BuildFault {
         BuildFault::NoMemory
@@ -36,10 +33,7 @@ impl From<AllocError> for BuildFault {
 }
 
 impl<T: Drop> From<AllocFailed<T>> for BuildFault {
-    ghost use Rattle.std.specs.Prelude.{◌≡◌};
-    ghost use Rattle.arrays.specs.declared.builder.fault.BuildFault.TheVariants as fault;
-
-    ghost from_gives = { λ _ e. e ≡ fault.NoMemory };
+    ghost from_gives = { λ _ e. e ≡ faults.NoMemory };
 
     fn from(_: AllocFailed<T>) -> BuildFault {
         BuildFault::NoMemory
