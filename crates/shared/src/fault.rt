@@ -1,5 +1,8 @@
 //! Why a table isn't opened, or isn't gathered.
 
+ghost use Rattle.std.specs.Prelude.{◌≡◌};
+ghost use Rattle.shared.specs.declared.fault.OpenFault.TheVariants as faults;
+
 use crate::naming::Naming;
 use crate::shared_table::SharedTable;
 use crate::shown::{Publish, Shown};
@@ -26,10 +29,7 @@ pub enum OpenFault {
 }
 
 impl From<NoMemory> for OpenFault {
-    ghost use Rattle.std.specs.Prelude.{◌≡◌};
-    ghost use Rattle.shared.specs.declared.fault.OpenFault.TheVariants as fault;
-
-    ghost from_gives = { λ _ e. e ≡ fault.NoMemory };
+    ghost from_gives = { λ _ e. e ≡ faults.NoMemory };
 
     fn from(_: NoMemory) -> OpenFault {
         OpenFault::NoMemory
@@ -37,10 +37,7 @@ impl From<NoMemory> for OpenFault {
 }
 
 impl From<AllocError> for OpenFault {
-    ghost use Rattle.std.specs.Prelude.{◌≡◌};
-    ghost use Rattle.shared.specs.declared.fault.OpenFault.TheVariants as fault;
-
-    ghost from_gives = { λ _ e. e ≡ fault.NoMemory };
+    ghost from_gives = { λ _ e. e ≡ faults.NoMemory };
 
     fn from(_: AllocError) -> OpenFault {
         OpenFault::NoMemory
@@ -48,10 +45,7 @@ impl From<AllocError> for OpenFault {
 }
 
 impl<T: Drop> From<AllocFailed<T>> for OpenFault {
-    ghost use Rattle.std.specs.Prelude.{◌≡◌};
-    ghost use Rattle.shared.specs.declared.fault.OpenFault.TheVariants as fault;
-
-    ghost from_gives = { λ _ e. e ≡ fault.NoMemory };
+    ghost from_gives = { λ _ e. e ≡ faults.NoMemory };
 
     fn from(_: AllocFailed<T>) -> OpenFault {
         OpenFault::NoMemory

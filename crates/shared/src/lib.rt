@@ -37,7 +37,7 @@ pub use session::{Session, with_table};
 pub use shared_table::{Gathered, SharedTable};
 pub use shown::{Publish, Publisher, Shown};
 pub use table::{
-    AddFault, Answer, Entry, Group, OpenGate, Query, QueryFault, QueryText, Ready, Refusal,
-    TableState, Version, resolve,
+    AddFault, Agg, Answer, ColumnStats, Entry, Group, OpenGate, Query, QueryFault, QueryText,
+    Ready, Refusal, Scalar, TableState, Version, resolve,
 };
 pub use worker::Worker;

@@ -3,7 +3,7 @@
 use crate::testing::{ALONE, CODES, LIST, UNKNOWN, assert_case};
 use crate::{empty, node};
 use arrays::RecordBatch;
-use flat::{Node, batch_of, nodes_of};
+use intake::{Node, batch_of, nodes_of};
 use std::alloc::Global;
 use std::test::Fail;
 use test_samples::{Shown, shows};

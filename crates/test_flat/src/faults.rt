@@ -7,7 +7,7 @@ use arrays::LayoutFault::{
     self, BufferTooShort, ChildDiffers, IndexPastDictionary, NotUtf8, NullCountDiffers,
     OffsetDecreases, OffsetNegative, OffsetPastEnd, TooLong,
 };
-use flat::{FlatFault, Node, batch_of, schema_of};
+use intake::{FlatFault, Node, batch_of, schema_of};
 use std::alloc::Global;
 use std::process::Abort;
 

@@ -4,8 +4,9 @@ use crate::testing::{ALONE, UNKNOWN, assert_case, is_line};
 use crate::{empty, node};
 use arrays::LayoutFault::BufferTooShort;
 use embed::{Loaded, RunFault};
-use flat::{FlatFault, Node};
-use intake::{AddFault, IntakeFault, Refusal, TableState, add_column, append, table_of};
+use intake::{
+    AddFault, FlatFault, IntakeFault, Node, Refusal, TableState, add_column, append, table_of,
+};
 use std::alloc::Global;
 use std::process::Abort;
 use std::test::Fail;

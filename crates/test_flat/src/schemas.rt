@@ -4,7 +4,7 @@ use crate::testing::{ALONE, CODES, LIST, assert_case};
 use crate::{empty, node};
 use arrays::SchemaFault::DictInList;
 use arrays::{DataType, Field, Schema, is_too_deep};
-use flat::{FlatFault, Node, fields_of, schema_of};
+use intake::{FlatFault, Node, fields_of, schema_of};
 use std::alloc::Global;
 use std::process::Abort;
 use std::test::Fail;

@@ -3,8 +3,7 @@
 use crate::node;
 use crate::testing::{ALONE, CODES, UNKNOWN};
 use arrays::LayoutFault::BufferTooShort;
-use flat::{FlatFault, Node};
-use intake::{IntakeFault, Refusal, TableState, append, table_of};
+use intake::{FlatFault, IntakeFault, Node, Refusal, TableState, append, table_of};
 use std::test::Fail;
 
 const PEOPLE: Node<'static> = node!(b"l", ALONE, 1, 0, [b"", b"\x05\0\0\0\0\0\0\0", b""]);

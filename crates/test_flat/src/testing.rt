@@ -27,7 +27,7 @@ macro_rules! node {
         $null_count:expr,
         [$validity:expr, $first:expr, $second:expr $(,)?] $(,)?
     ) => {
-        flat::Node {
+        intake::Node {
             format: $format,
             name: b"name",
             nullable: 2,

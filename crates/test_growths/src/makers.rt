@@ -17,11 +17,12 @@ use ends::memory::MemorySource;
 use ends::read_whole;
 use intake::{batch_of, schema_of, table_of};
 use job::job;
-use json_file::{read_batches, read_text as read_file_text};
+use json_file::{
+    Cursor, find_member, read_batch, read_batch_members, read_batches, read_column, read_columns,
+    read_integers, read_key, read_string, read_text as read_file_text, read_value,
+};
 use json_read::{Coding, read_head, read_schema};
-use json_scan::{find_member, read_integers, read_key, read_text, read_value};
-use json_stream::{read_batch, read_column, read_columns};
-use kernels::BothValid;
+use kernels::{Both, Valid};
 use selqumar_core::{read_field, read_file, read_file_from_vec, read_query};
 use std::alloc::{AllocError, Global};
 use std::sync::Arc;
@@ -80,6 +81,7 @@ pub(crate) enum Document {
 #[derive(Clone, Copy)]
 pub(crate) enum Part {
     Columns,
+    Members,
     Batch,
     Batches,
 }
@@ -124,7 +126,7 @@ pub(crate) static MAKERS: [(&str, Maker); 17] = [
 ];
 
 #[rattlefmt::skip]
-pub(crate) static DOCUMENTS: [(&str, Maker); 23] = [
+pub(crate) static DOCUMENTS: [(&str, Maker); 24] = [
     ("read_file", Maker::Document(Document::File(SampleFile::TwoBatches))),
     ("read_file, a wrong kind", Maker::Document(Document::File(SampleFile::WrongKind))),
     ("read_file, an offset past the items", Maker::Document(Document::File(SampleFile::PastEnd))),
@@ -142,6 +144,7 @@ pub(crate) static DOCUMENTS: [(&str, Maker); 23] = [
     ("json_stream::read_column", Maker::Document(Document::Column)),
     ("json_stream::read_column, encoded", Maker::Document(Document::Codes)),
     ("json_stream::read_columns", Maker::Document(Document::Part(Part::Columns))),
+    ("json_stream::read_batch_members", Maker::Document(Document::Part(Part::Members))),
     ("json_stream::read_batch", Maker::Document(Document::Part(Part::Batch))),
     ("json_file::read_batches", Maker::Document(Document::Part(Part::Batches))),
     ("json_file::read_text", Maker::Document(Document::FileText)),
@@ -269,7 +272,8 @@ fn behind_ones(alloc: Global, bits: &Bits<'_>) -> Result<BitmapBuf, NoMemory> {
 fn places(alloc: Global) -> Result<BitmapBuf, NoMemory> {
     let column = Array::nulls(alloc, &DataType::Bool, 12)?;
     let (view, again) = (column.view(), column.view());
-    BitmapBuf::from_places(alloc, &BothValid::of(&view, &again))
+    let (a, b) = (Valid::of(&view), Valid::of(&again));
+    BitmapBuf::from_places(alloc, &Both { a: &a, b: &b })
 }
 
 fn built(alloc: Global, maker: Column) -> Result<Array, BuildFault> {
@@ -357,7 +361,7 @@ fn read_value_of(alloc: Global, report: &mut String, document: Document) -> Resu
         Document::Query(query) => told(report, read_query(alloc, query.text().as_bytes())),
         Document::Field => told(report, read_field(alloc, FIELD.as_bytes())),
         Document::Job => told(report, job(alloc, &WORDS)),
-        Document::Text => told(report, read_text(ESCAPED, 0, &mut Vec::new(alloc))),
+        Document::Text => told(report, read_string(ESCAPED, 0, &mut Vec::new(alloc))),
         Document::Key => told(report, read_key(KEYS, 1, &mut Vec::new(alloc))),
         Document::Member => told(report, find_member(alloc, KEYS, 0, 1, "b")),
         Document::Integers => told(report, read_integers(alloc, INTEGERS, 0, 1)),
@@ -433,6 +437,17 @@ fn read_part(alloc: Global, report: &mut String, part: Part) -> Result<(), Stop>
             given(
                 report,
                 read_columns(alloc, fields, &catalog, BATCHES, COLUMNS_AT, 4),
+            )
+        }
+        Part::Members => {
+            let cursor = Cursor {
+                text: BATCHES,
+                at: 1,
+                depth: 5,
+            };
+            given(
+                report,
+                read_batch_members(alloc, schema.fields(), &catalog, cursor),
             )
         }
         Part::Batch => given(report, read_batch(alloc, &schema, &catalog, BATCHES, 1, 5)),

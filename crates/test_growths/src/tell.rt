@@ -3,7 +3,7 @@
 ghost use Rattle.std.specs.Prelude.{◌<◌, length};
 
 use arrays::{Array, Buffer, File, RecordBatch, Schema, View, ViewType};
-use json_scan::Placed;
+use json_file::{BatchMembers, Placed};
 use selqumar_core::{Ready, Version};
 use std::alloc::AllocError;
 use std::sync::Arc;
@@ -51,6 +51,13 @@ impl<T: Tell> Tell for Arc<T> {
 impl<T: Tell> Tell for Placed<T> {
     fn tell(&self, report: &mut String) -> Result<(), AllocError> {
         self.value.tell(report)
+    }
+}
+
+impl Tell for BatchMembers {
+    fn tell(&self, report: &mut String) -> Result<(), AllocError> {
+        self.count.tell(report)?;
+        self.columns.tell(report)
     }
 }
 

@@ -2,8 +2,8 @@
 
 use crate::facts::{Cell, Fact};
 use crate::scenes::{End, Group, Scene, Step, expect};
+use shared::Refusal;
 use std::test::Fail;
-use table::Refusal;
 use test_samples::{Batch, INT8, INT32, INT64, Sample, Shown};
 
 const NULL: Batch = (1, &[("n", true, Sample::Numbers(INT8, &[None]))]);

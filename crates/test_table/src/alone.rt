@@ -2,9 +2,9 @@
 
 use crate::facts::{Facts, shows_all};
 use crate::scenes::{Place, Step, field_of};
+use shared::TableState;
 use std::alloc::Global;
 use std::test::Fail;
-use table::TableState;
 use test_samples::{Batch, batch_of, fields_of};
 
 /// The first step of a scene that doesn't come out as it must.

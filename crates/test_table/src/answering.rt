@@ -3,11 +3,11 @@
 use crate::batches::{ONE_AND_TWO, THREE_AND_X};
 use crate::scenes::{Flat, field_of};
 use arrayvec::ArrayVec;
+use shared::{Agg, Answer, OpenGate, Query, QueryFault, TableState, Version};
 use std::alloc::Global;
 use std::process::Abort;
 use std::sync::Arc;
 use std::test::Fail;
-use table::{Agg, Answer, OpenGate, Query, QueryFault, TableState, Version};
 use test_samples::{batch_of, fields_of};
 
 /// By the second column: how many rows there are, and the sum of the first.

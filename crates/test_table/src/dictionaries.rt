@@ -1,10 +1,10 @@
 //! How many dictionaries a table keeps where each batch brings a new text, and what a version from before shows.
 
 use arrays::{Array, DataType, OffsetWidth, RecordBatch, Schema, TextBuilder, View, ViewType};
+use shared::TableState;
 use std::alloc::Global;
 use std::sync::Arc;
 use std::test::Fail;
-use table::TableState;
 
 /// How many texts the first batch has beside its own.
 const TEXTS: u32 = 100_000;

@@ -3,9 +3,9 @@
 ghost use Rattle.std.specs.Prelude.{◌<◌, length};
 
 use arrays::RecordBatch;
+use shared::{ColumnStats, Entry, Scalar, Version};
 use std::alloc::Global;
 use std::sync::Arc;
-use table::{ColumnStats, Entry, Scalar, Version};
 use test_samples::{Shown, shows};
 
 /// What is true of a version.

@@ -1,8 +1,8 @@
 //! How many rows a table takes.
 
+use shared::{Refusal, TableState};
 use std::alloc::Global;
 use std::test::Fail;
-use table::{Refusal, TableState};
 use test_samples::{batch_of, fields_of};
 
 /// Batches of so many rows that come when a table has 512 below the most, and what they are answered.

@@ -4,13 +4,12 @@ use crate::facts::{Facts, shows_all};
 use crate::scenes::{End, Place, Step, field_of};
 use arrays::{NoMemory, RecordBatch};
 use shared::{
-    GatherCause, GatherFault, Naming, OpenFault, Publish, Reader, Receipt, Session, SharedTable,
-    Shown, Version, Worker, with_table,
+    GatherCause, GatherFault, Naming, OpenFault, Publish, Reader, Receipt, Refusal, Session,
+    SharedTable, Shown, Version, Worker, with_table,
 };
 use std::alloc::Global;
 use std::sync::{Arc, Wait};
 use std::test::Fail;
-use table::Refusal;
 use test_samples::{Batch, batch_of, fields_of};
 
 /// The first step of a scene that doesn't come out as it must: that behind the last is its end.

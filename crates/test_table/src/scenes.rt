@@ -10,12 +10,11 @@ use crate::played::play;
 use crate::reading::READ;
 use crate::widening::{TYPED, WIDENED};
 use arrays::{DataType, Field, IntType};
-use shared::OpenFault;
+use shared::{AddFault, OpenFault, Refusal};
 use std::alloc::Global;
 use std::process::Abort;
 use std::sync::Wait;
 use std::test::Fail;
-use table::{AddFault, Refusal};
 use test_samples::{Batch, WIDE_IN_NARROW, field, lists_of};
 
 /// A table, and what is done with it.

@@ -3,9 +3,8 @@
 use crate::batches::{ONE_AND_TWO, THREE, THREE_AND_X};
 use crate::facts::{Cell, Fact, Facts, Stats};
 use crate::scenes::{Column, End, Flat, Group, Scene, Step, expect};
-use shared::Refusal;
+use shared::{AddFault, Refusal};
 use std::test::Fail;
-use table::AddFault;
 use test_samples::{Batch, INT8, INT64, Sample, Shown, UINT16};
 
 /// Texts, numbers and large texts.
