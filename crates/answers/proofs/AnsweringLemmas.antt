@@ -7,16 +7,11 @@ use Rattle.std.proofs.lemmas.Grind.{flat_map-append}
 use Rattle.std.proofs.lemmas.List.{append-nil, get_or-map, take_more}
 use Rattle.std.proofs.lemmas.List.Elements.{All-get_or, All-head, All-tail}
 use mathlib.Core.Path.{fun_ext}
-use Rattle.arrays.specs.Batch.{Batch, Row, Table, rows_of}
-use Rattle.arrays.specs.Shape.{FieldShape, kind_of_field}
-use Rattle.query.specs.QueryShape.{query_shape}
-use Rattle.query.specs.Tree.{Tree}
+use Rattle.arrays.specs.Prelude.{Batch, FieldShape, Row, Table, kind_of_field, rows_of}
+use Rattle.query.specs.Prelude.{Tree, query_shape}
 use Rattle.query.specs.declared.queries.Query.{Query}
-use Rattle.answers.specs.Answers.{all_rows}
-use Rattle.answers.specs.Groups.{is_bad, is_kept, verdict, verdict_of}
+use Rattle.answers.specs.Prelude.{HasKept, IsGrouped, all_rows, is_bad, is_kept, verdict, verdict_of}
 use Rattle.tallies.specs.Columns.{show_column}
-use Rattle.answers.specs.Grouping.{IsGrouped}
-use Rattle.answers.specs.Runs.{HasKept}
 use Rattle.answers.specs.declared.grouping.Grouping.{Grouping}
 use Rattle.answers.proofs.FieldLemmas.{same_sorts, same_value}
 use Rattle.answers.proofs.RunLemmas.{length-rows}

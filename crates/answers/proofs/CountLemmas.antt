@@ -2,17 +2,14 @@
 use Rattle.std.proofs.Common.{◌≡◌, ◌∙◌, ℕ, ◌+◌, List, [], Option, Some, None, get_or, ◌∷◌, ◌++◌, filter, length, length-append, map, replicate, refl, sym, ap, subst}
 use Rattle.std.specs.Prelude.{slice_set}
 use Rattle.std.proofs.lemmas.List.{length-map}
-use Rattle.arrays.specs.Batch.{Table}
-use Rattle.arrays.specs.Shape.{FieldShape}
+use Rattle.arrays.specs.Prelude.{FieldShape, Table}
 use Rattle.query.specs.Tree.{Tree}
 use Rattle.query.specs.declared.expr.Agg.{Agg}
 use Rattle.query.specs.declared.expr.Agg.TheVariants.{Rows}
-use Rattle.tallies.specs.Columns.{ColumnShape, column_of, rows_column, show_column}
-use Rattle.answers.specs.Groups.{is_kept, keys_of, rows_of_key}
+use Rattle.tallies.specs.Prelude.{ColumnShape, column_of, counted, item_for, rows_column, show_column}
+use Rattle.answers.specs.Prelude.{IsGrouped, is_kept, key_tables, keys_of, rows_of_key}
 use Rattle.keys.specs.Keys.{key_of, with_keys}
 use Rattle.tallies.specs.declared.column.TallyColumn.{TallyColumn}
-use Rattle.answers.specs.Grouping.{IsGrouped, key_tables}
-use Rattle.tallies.specs.Tallies.{counted, item_for}
 use Rattle.keys.proofs.KeyLemmas.{Keys}
 use Rattle.answers.proofs.GroupLemmas.{keys-more}
 use Rattle.keys.proofs.MemoLemmas.{alike}

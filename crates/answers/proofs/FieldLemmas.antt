@@ -2,14 +2,9 @@
 use Rattle.std.proofs.Common.{◌≡◌, ◌∙◌, ℕ, List, ◌∷◌, map, Option, Some, None, Ok, ap, sym, refl}
 use Rattle.std.specs.Prelude.{option_and_then, option_map, slice_get, Result, Err}
 use Rattle.std.proofs.lemmas.Option.{slice_get-map}
-use Rattle.arrays.specs.Batch.{Row}
-use Rattle.arrays.specs.Kind.{Kind}
-use Rattle.arrays.specs.Shape.{FieldShape, kind_of_field}
-use Rattle.query.specs.Checked.{checked}
-use Rattle.query.specs.CalledColumns.{sort_at, sort_of_field}
-use Rattle.query.specs.Sorts.{sort_of_kind}
+use Rattle.arrays.specs.Prelude.{FieldShape, Kind, Row, kind_of_field}
+use Rattle.query.specs.Prelude.{Tree, Trees, checked, sort_at, sort_of_field, sort_of_kind}
 use Rattle.query.specs.Tree as tree
-use Rattle.query.specs.Tree.{Tree, Trees}
 use Rattle.query.specs.declared.fault.QueryFault.{QueryFault}
 use Rattle.query.specs.declared.fault.QueryFault.TheVariants.{NoColumn}
 use Rattle.query.specs.declared.sort.Sort.{Sort}

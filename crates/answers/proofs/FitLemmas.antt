@@ -3,11 +3,8 @@ use Rattle.std.proofs.Common.{◌≡◌, true, not, List, [], ◌∷◌, map, is
 use Rattle.std.specs.Prelude.{All, ℕ}
 use Rattle.std.proofs.lemmas.List.Elements.{All-nil, All-cons}
 use Rattle.arrays.proofs.FirstLemmas.{first-none}
-use Rattle.arrays.specs.First.{first}
-use Rattle.arrays.specs.Shape.{FieldShape}
-use Rattle.query.specs.QueryShape.{QueryShape}
-use Rattle.query.specs.CalledColumns.{sort_at}
-use Rattle.query.specs.FirstFault.{agg_fault, filter_fault, fits, is_too_deep, key_fault, query_fault}
+use Rattle.arrays.specs.Prelude.{FieldShape, first}
+use Rattle.query.specs.Prelude.{QueryShape, agg_fault, filter_fault, fits, is_too_deep, key_fault, query_fault, sort_at}
 use Rattle.query.specs.declared.fault.QueryFault.{QueryFault}
 use Rattle.keys.proofs.SameLemmas.{both_true}
 

@@ -3,12 +3,11 @@ use Rattle.std.proofs.Common.{◌≡◌, ◌∙◌, ℕ, zero, suc, pos, ◌+◌
 use Rattle.std.proofs.lemmas.List.{append-nil, map-append, length-map, get_or-map, take_more, take_all}
 use Rattle.std.proofs.lemmas.List.Sums.{length-filter, count_by-le-length}
 use Rattle.std.proofs.lemmas.List.Elements.{filter-append, All-nil, All-cons, All-head, All-tail}
-use Rattle.arrays.specs.Batch.{Table, Row}
-use Rattle.arrays.specs.Item.{Item, int}
+use Rattle.arrays.specs.Prelude.{Item, Row, Table, int}
 use Rattle.query.specs.declared.expr.Agg.{Agg}
 use Rattle.query.specs.declared.expr.Agg.TheVariants as agg
-use Rattle.answers.specs.Groups.{cell, GroupShape, first_keys, group_of, grouped, keys_of, rows_of_key}
-use Rattle.tallies.specs.Tallies.{items_for, tally_of, cell_of, counted}
+use Rattle.answers.specs.Prelude.{GroupShape, IsGrouped, cell, first_keys, group_of, grouped, key_tables, keys_of, rows_of_key}
+use Rattle.tallies.specs.Prelude.{ColumnShape, IsColumnOf, cell_of, cell_of_group, column_of, counted, items_for, padded, put, show_column, spread, tally_of}
 use Rattle.keys.proofs.SameLemmas.{either, same_key-Decides, same_key_equiv}
 use Rattle.std.specs.Prelude.{All, slice_get, slice_index_or, slice_set}
 use Rattle.std.specs.Bool.{Decides}
@@ -18,11 +17,7 @@ use Rattle.std.proofs.lemmas.List.Folds.{list_any-append}
 use Rattle.std.proofs.lemmas.Map.Keys.{IsDistinct-head, IsDistinct-tail, IsDistinct-from_apart}
 use Rattle.std.proofs.lemmas.Option.{slice_get_within, get_or_from_slice_get}
 use Rattle.indexmap.specs.IndexSet.{insert_key}
-use Rattle.tallies.specs.Columns.{ColumnShape, column_of, show_column, cell_of_group, IsColumnOf}
-use Rattle.keys.specs.Keys.{key_of, AreIds, with_keys}
-use Rattle.answers.specs.Grouping.{IsGrouped, key_tables}
-use Rattle.keys.specs.Same.{firsts, same_key}
-use Rattle.tallies.specs.Spread.{padded, put, spread}
+use Rattle.keys.specs.Prelude.{AreIds, firsts, key_of, same_key, with_keys}
 use Rattle.tallies.specs.declared.column.TallyColumn.{TallyColumn}
 use Rattle.answers.proofs.FirstsLemmas.{among-firsts, firsts-push}
 use Rattle.keys.proofs.KeyLemmas.{Keys, is_among, distinct-more, grown}

@@ -3,18 +3,12 @@ use Rattle.std.proofs.Common.{◌≡◌, ◌∙◌, ℕ, ◌<◌, List, [], ◌�
 use Rattle.std.specs.Prelude.{All}
 use Rattle.std.proofs.lemmas.List.{get_or-map, length-map}
 use Rattle.std.proofs.lemmas.List.Elements.{All-cons, All-filter, All-head, All-map, All-nil, All-tail, All-weaker}
-use Rattle.arrays.specs.Batch.{Row, Table}
-use Rattle.arrays.specs.Kind.{Kind}
+use Rattle.arrays.specs.Prelude.{Kind, Row, Table}
 use Rattle.query.specs.declared.expr.Agg.{Agg}
 use Rattle.query.specs.declared.expr.Agg.TheVariants as agg
-use Rattle.tallies.specs.Columns.{ColumnShape, column_of, show_column}
-use Rattle.keys.specs.Keys.{key_of}
-use Rattle.answers.specs.Groups.{keys_of, rows_of_key}
-use Rattle.answers.specs.Grouping.{HasGroups, key_tables}
-use Rattle.tallies.specs.Kinds.{AreComparable, IsComparable}
-use Rattle.tallies.specs.Merging.{AreAlike}
-use Rattle.keys.specs.Same.{same_key}
-use Rattle.tallies.specs.Tallies.{item_for, items_for}
+use Rattle.tallies.specs.Prelude.{AreAlike, AreComparable, ColumnShape, IsComparable, column_of, item_for, items_for, show_column}
+use Rattle.keys.specs.Prelude.{key_of, same_key}
+use Rattle.answers.specs.Prelude.{HasGroups, key_tables, keys_of, rows_of_key}
 use Rattle.query.specs.declared.queries.Query.{Query}
 use Rattle.answers.specs.declared.grouping.Grouping.{Grouping}
 use Rattle.tallies.specs.declared.column.TallyColumn.{TallyColumn}

@@ -3,23 +3,14 @@ use Rattle.std.proofs.Common.{◌≡◌, ◌∙◌, ℕ, ◌+◌, ◌<◌, List,
 use Rattle.std.specs.Prelude.{◌⊎◌, None, slice_index_or}
 use Rattle.std.proofs.lemmas.List.Elements.{All-append, All-cons, All-from_get_or, All-get_or, All-head, All-nil, All-tail, All-weaker}
 use Rattle.std.proofs.lemmas.List.FromFn.{get_or-map-range_with_len}
-use Rattle.arrays.specs.Batch.{Batch, Row, Table, row_of, rows_of}
-use Rattle.arrays.specs.Item.{null}
+use Rattle.arrays.specs.Prelude.{Batch, FieldShape, IsItemOf, Kind, Row, Seen, Table, is_list, kind_of_field, null, row_of, rows_of}
 use Rattle.arrays.specs.Kind as kind
-use Rattle.arrays.specs.Kind.{Kind}
-use Rattle.arrays.specs.Seen.{Seen}
-use Rattle.arrays.specs.Slot.{is_list}
-use Rattle.arrays.specs.Typed.{IsItemOf}
-use Rattle.arrays.specs.Shape.{FieldShape, kind_of_field}
-use Rattle.query.specs.CalledColumns.{sort_at}
-use Rattle.query.specs.FirstFault.{agg_fault}
-use Rattle.query.specs.Sorts.{is_plain}
+use Rattle.query.specs.Prelude.{agg_fault, is_plain, sort_at}
 use Rattle.query.specs.declared.expr.Agg.{Agg}
 use Rattle.query.specs.declared.expr.Agg.TheVariants.{Least, Greatest}
 use Rattle.answers.specs.Answers.{all_rows}
-use Rattle.tallies.specs.Kinds.{AreComparable, IsComparable}
+use Rattle.tallies.specs.Prelude.{AreComparable, IsComparable, item_for}
 use Rattle.evaluate.specs.Rows.{kind_at, HasColumn}
-use Rattle.tallies.specs.Tallies.{item_for}
 use Rattle.answers.proofs.AnsweringLemmas.{rows_next}
 use Rattle.evaluate.proofs.RowLemmas.{plain_is_no_list, sort_passes}
 use Rattle.answers.proofs.RunLemmas.{length-rows}

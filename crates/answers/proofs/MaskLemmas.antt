@@ -9,15 +9,9 @@ use Rattle.std.proofs.lemmas.List.Elements.{filter-append}
 use Rattle.std.proofs.lemmas.List.FromFn.{get_or-map-range_with_len, length-map-range_with_len}
 use Rattle.std.proofs.lemmas.List.Sums.{length-filter}
 use Rattle.std.proofs.lemmas.Nat.Bits.{bit_at-trailing_zeros, bit_at-zero, bit_at_clear_other, bit_at_clear_same}
-use Rattle.arrays.specs.Bit.{bit_in}
-use Rattle.arrays.specs.Bitmap.{bit_of}
+use Rattle.arrays.specs.Prelude.{HasBits, Item, Seen, bit_in, bit_of, boolean, item_at, null, valid_at, valid_in}
 use Rattle.arrays.proofs.WordLemmas.{ones-rest}
-use Rattle.arrays.specs.Item.{Item, null, boolean}
-use Rattle.arrays.specs.Seen.{Seen, valid_at, valid_in}
-use Rattle.arrays.specs.Values.{HasBits}
-use Rattle.arrays.specs.Slot.{item_at}
-use Rattle.answers.specs.Masks.{is_set, ones_of, set_rows}
-use Rattle.answers.specs.Runs.{keeps_item}
+use Rattle.answers.specs.Prelude.{is_set, keeps_item, ones_of, set_rows}
 
 -- ---- numbers that a test passes
 

@@ -10,16 +10,11 @@ use Rattle.std.proofs.lemmas.List.Sums.{fold-append}
 use Rattle.std.proofs.lemmas.Map.Keys.{IsDistinct-head, IsDistinct-tail}
 use Rattle.std.proofs.lemmas.Option.{get_or_from_slice_get, slice_get_within}
 use Rattle.indexmap.specs.IndexSet.{insert_key}
-use Rattle.arrays.specs.Batch.{Row, Table}
-use Rattle.arrays.specs.Item.{Item}
+use Rattle.arrays.specs.Prelude.{Item, Row, Table}
 use Rattle.query.specs.declared.expr.Agg.{Agg}
-use Rattle.tallies.specs.Columns.{ColumnShape, column_of}
-use Rattle.answers.specs.Grouping.{IsGrouped, key_tables}
-use Rattle.keys.specs.Keys.{key_of, AreIds, with_keys}
-use Rattle.answers.specs.Groups.{keys_of, rows_of_key}
-use Rattle.tallies.specs.Merging.{put_all, spread_all}
-use Rattle.keys.specs.Same.{same_key}
-use Rattle.tallies.specs.Spread.{padded}
+use Rattle.tallies.specs.Prelude.{ColumnShape, column_of, padded, put_all, spread_all}
+use Rattle.answers.specs.Prelude.{IsGrouped, key_tables, keys_of, rows_of_key}
+use Rattle.keys.specs.Prelude.{AreIds, key_of, same_key, with_keys}
 use Rattle.answers.proofs.CountLemmas.{sole_key}
 use Rattle.keys.proofs.KeyLemmas.{Keys, distinct-more, grown, inserted, is_among}
 use Rattle.answers.proofs.GroupLemmas.{keys-more, none_yet, set_mapped, tables-padded}

@@ -4,24 +4,16 @@ use Rattle.std.specs.Prelude.{All, slice_index_or}
 use Rattle.std.specs.List.{reduce}
 use Rattle.std.proofs.lemmas.List.{map-append}
 use Rattle.std.proofs.lemmas.List.Elements.{All-append, All-cons, All-contains, All-head, All-map, All-nil, All-tail, All-weaker, filter-append, filter_passes}
-use Rattle.arrays.specs.Item.{Item, null, int, boolean, text, list, is_null}
+use Rattle.arrays.specs.Prelude.{Item, Kind, Row, Table, boolean, column, int, is_null, item_of, list, null, text}
 use Rattle.arrays.specs.Kind as kind
-use Rattle.arrays.specs.Kind.{Kind}
 use Rattle.query.specs.declared.expr.Agg.{Agg}
 use Rattle.query.specs.declared.expr.Agg.TheVariants.{Rows, Count, Sum, Least, Greatest}
-use Rattle.answers.specs.Merging.{AreMergeable, HasOrder, IsMergeable, again}
-use Rattle.arrays.specs.Batch.{Row, Table, column}
-use Rattle.group.specs.Joined.{better}
-use Rattle.answers.specs.Groups.{cell, values}
-use Rattle.group.specs.Stats.{greater, greatest_of, is_ordered, least_of, lesser, numbers_of, ordered}
-use Rattle.arrays.specs.Slot.{item_of}
-use Rattle.group.specs.Scalars.{item_or_null}
+use Rattle.answers.specs.Prelude.{AreMergeable, HasOrder, IsMergeable, again, cell, values}
+use Rattle.group.specs.Prelude.{IsGreatestOf, IsLeastOf, better, greater, greatest_of, is_ordered, item_or_null, least_of, lesser, numbers_of, ordered}
 use Rattle.group.proofs.JoinedStats.{least-append, greatest-append}
-use Rattle.group.specs.Bounds.{IsGreatestOf, IsLeastOf}
 use Rattle.group.proofs.BoundLemmas.{greatest_bounds, least_bounds}
 use Rattle.tallies.proofs.TallyLemmas.{tally-merged, valid_items-one}
-use Rattle.tallies.specs.Kinds.{AreComparable, IsComparable}
-use Rattle.tallies.specs.Tallies.{TallyShape, item_for, valid_items}
+use Rattle.tallies.specs.Prelude.{AreComparable, IsComparable, TallyShape, item_for, valid_items}
 use Rattle.group.proofs.TallyLemmas.{null_is_not}
 
 -- ---- columns

@@ -4,14 +4,10 @@ use Rattle.std.specs.Prelude.{All, flat_map, slice_index_or}
 use Rattle.std.proofs.Math.Bool.{or-true}
 use Rattle.std.proofs.lemmas.List.{append-nil, get_or_at, length-map, length_push, map-append}
 use Rattle.std.proofs.lemmas.List.Elements.{All-cons, All-filter, All-head, All-nil, All-tail, All-weaker, filter-append}
-use Rattle.arrays.specs.Item.{Item, null}
-use Rattle.arrays.specs.Kind.{Kind}
+use Rattle.arrays.specs.Prelude.{Item, Kind, Table, null}
 use Rattle.query.specs.declared.expr.Agg.{Agg}
-use Rattle.answers.specs.Merging.{AreMergeable, IsMergeable, all_again, rows_of_shards}
-use Rattle.answers.specs.Groups.{GroupShape, cell, group_of, grouped, keys_of, rows_of_key}
-use Rattle.arrays.specs.Batch.{Table}
-use Rattle.keys.specs.Keys.{key_of}
-use Rattle.keys.specs.Same.{same_key}
+use Rattle.answers.specs.Prelude.{AreMergeable, GroupShape, IsMergeable, all_again, cell, group_of, grouped, keys_of, rows_of_key, rows_of_shards}
+use Rattle.keys.specs.Prelude.{key_of, same_key}
 use Rattle.keys.proofs.KeyLemmas.{Keys, is_among}
 use Rattle.keys.proofs.SameLemmas.{either, same_key_equiv}
 use Rattle.answers.proofs.GroupLemmas.{none_yet}

@@ -8,13 +8,10 @@ use Rattle.std.proofs.lemmas.List.FromFn.{fill_by_all}
 use Rattle.std.proofs.lemmas.List.Elements.{All-append, All-cons, All-filter, All-head, All-map, All-nil, All-tail}
 use Rattle.std.proofs.lemmas.List.Folds.{list_any-append}
 use Rattle.std.proofs.lemmas.Map.Keys.{IsDistinct-from_apart, IsDistinct-head, IsDistinct-tail}
-use Rattle.arrays.specs.Item.{Item, null}
+use Rattle.arrays.specs.Prelude.{Item, Row, Table, null}
 use Rattle.query.specs.declared.expr.Agg.{Agg}
-use Rattle.answers.specs.Merging.{row_of_group, rows_of_shards}
-use Rattle.arrays.specs.Batch.{Row, Table}
-use Rattle.answers.specs.Groups.{first_keys, group_of, grouped, keys_of, rows_of_key}
-use Rattle.keys.specs.Same.{firsts, same_key}
-use Rattle.keys.specs.Keys.{key_of, with_keys}
+use Rattle.answers.specs.Prelude.{first_keys, group_of, grouped, keys_of, row_of_group, rows_of_key, rows_of_shards}
+use Rattle.keys.specs.Prelude.{firsts, key_of, same_key, with_keys}
 use Rattle.keys.proofs.KeyLemmas.{Keys, distinct-more, is_among}
 use Rattle.answers.proofs.FirstsLemmas.{among-firsts}
 use Rattle.keys.proofs.SameLemmas.{either, same_key-Decides}

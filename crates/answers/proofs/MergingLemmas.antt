@@ -7,17 +7,13 @@ use Rattle.std.proofs.lemmas.List.{append-nil}
 use Rattle.std.proofs.lemmas.List.Concat.{flat_map-append}
 use Rattle.std.proofs.lemmas.List.Elements.{All-append, All-cons, All-nil, filter-append}
 use Rattle.std.proofs.lemmas.List.FromFn.{length-range_with_len}
-use Rattle.arrays.specs.Item.{Item}
-use Rattle.arrays.specs.Kind.{Kind}
+use Rattle.arrays.specs.Prelude.{FieldShape, Item, Kind, Row, Table}
 use Rattle.group.specs.Summary.{AreStats}
 use Rattle.group.specs.declared.stats.ColumnStats.{ColumnStats}
-use Rattle.arrays.specs.Shape.{FieldShape}
 use Rattle.query.specs.QueryShape.{QueryShape}
 use Rattle.query.specs.declared.expr.Agg.{Agg}
 use Rattle.query.specs.declared.expr.Agg.TheVariants.{Rows, Count, Sum, Least, Greatest}
-use Rattle.answers.specs.Merging.{AreAnswers, AreJoinedInTurn, AreMergeable, again, all_again, merging, row_of_group, rows_of_answers, rows_of_shards}
-use Rattle.answers.specs.Groups.{GroupShape, grouped, groups, is_bad, is_kept, unless_bad}
-use Rattle.arrays.specs.Batch.{Row, Table}
+use Rattle.answers.specs.Prelude.{AreAnswers, AreJoinedInTurn, AreMergeable, GroupShape, again, all_again, grouped, groups, is_bad, is_kept, merging, row_of_group, rows_of_answers, rows_of_shards, unless_bad}
 use Rattle.answers.proofs.CountLemmas.{all_kept}
 use Rattle.keys.proofs.SameLemmas.{either}
 use Rattle.answers.proofs.PieceLemmas.{found_behind, found_in_front}

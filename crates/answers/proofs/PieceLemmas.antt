@@ -9,17 +9,12 @@ use Rattle.std.proofs.lemmas.Grind.{common_steps}
 use Rattle.std.proofs.lemmas.List.{length-drop, length-take, take_all}
 use Rattle.std.proofs.lemmas.List.Elements.{All-append, All-cons, All-drop, All-head, All-nil, All-tail, All-take}
 use Rattle.arrays.proofs.BitLemmas.{map-range-same}
-use Rattle.arrays.specs.Batch.{Batch, Row, Table, row_of, rows_of}
+use Rattle.arrays.specs.Prelude.{Batch, FieldShape, Row, Table, kind_of_field, row_of, rows_of}
 use Rattle.evaluate.specs.Slices.{row_in}
-use Rattle.arrays.specs.Shape.{FieldShape, kind_of_field}
-use Rattle.query.specs.QueryShape.{query_shape}
-use Rattle.query.specs.Tree.{Tree}
+use Rattle.query.specs.Prelude.{Tree, query_shape}
 use Rattle.query.specs.declared.queries.Query.{Query}
-use Rattle.answers.specs.Answers.{all_rows}
-use Rattle.answers.specs.Groups.{is_bad, verdict}
-use Rattle.answers.specs.Pieces.{AreLooked, HasRun, IsGood, IsPieceRefusal, between, cut_at}
+use Rattle.answers.specs.Prelude.{AreLooked, AreSound, HasKept, HasRun, IsBadRow, IsGood, IsPieceRefusal, all_rows, between, cut_at, is_bad, rows_in, verdict}
 use Rattle.query.specs.declared.fault.QueryFault.{QueryFault}
-use Rattle.answers.specs.Runs.{AreSound, HasKept, IsBadRow, rows_in}
 use Rattle.answers.specs.declared.grouping.Grouping.{Grouping}
 use Rattle.answers.proofs.AnsweringLemmas.{bad_alike, few_next, first_at, has_kept_alike, rows_next, rows_split as rows_apart}
 use Rattle.answers.proofs.RunLemmas.{length-rows_in, rows_split}

@@ -5,12 +5,10 @@ use Rattle.std.specs.List.{range_with_len}
 use Rattle.std.proofs.lemmas.List.{map-append}
 use Rattle.std.proofs.lemmas.List.FromFn.{map-range_with_len_more}
 use Rattle.std.proofs.lemmas.Option.{get_or_from_slice_get, slice_get-get_or}
-use Rattle.arrays.specs.Batch.{Table}
-use Rattle.arrays.specs.Item.{Item}
+use Rattle.arrays.specs.Prelude.{Item, Table}
 use Rattle.query.specs.declared.expr.Agg.{Agg}
 use Rattle.tallies.specs.Columns.{show_column, cell_of_group}
-use Rattle.answers.specs.Grouping.{IsGrouped, groups_from, group_at}
-use Rattle.answers.specs.Groups.{GroupShape, grouped}
+use Rattle.answers.specs.Prelude.{GroupShape, IsGrouped, group_at, grouped, groups_from}
 use Rattle.answers.specs.declared.grouping.Grouping.{Grouping}
 use Rattle.answers.proofs.GroupLemmas.{reported_more, reported_whole}
 use Rattle.answers.proofs.MaskLemmas.{range-append}

@@ -6,18 +6,14 @@ use Rattle.std.proofs.lemmas.List.{append-nil, length-map, take_more}
 use Rattle.std.proofs.lemmas.List.Elements.{All-nil, All-cons, All-head, All-tail}
 use Rattle.std.proofs.lemmas.List.FromFn.{get_or-map-range_with_len, length-map-range_with_len, length-range_with_len, map-range_with_len_more}
 use Rattle.std.proofs.lemmas.List.Sums.{length-filter, count_by-le-length}
-use Rattle.arrays.specs.Batch.{Batch, Row, Table, row_of, rows_of}
-use Rattle.arrays.specs.Item.{Item, null, int, boolean, text, list}
-use Rattle.arrays.specs.Shape.{FieldShape}
+use Rattle.arrays.specs.Prelude.{Batch, FieldShape, Item, Row, Table, boolean, int, list, null, row_of, rows_of, text}
 use Rattle.query.specs.Tree.{Tree}
-use Rattle.evaluate.specs.Slices.{AreFilterValues, IsFilterStop, item_in, row_in}
-use Rattle.evaluate.specs.Value.{value}
+use Rattle.evaluate.specs.Prelude.{AreFilterValues, IsFilterStop, item_in, row_in, value}
 use Rattle.evaluate.specs.declared.stop.Stop.{Stop}
 use Rattle.evaluate.specs.declared.stop.Stop.TheVariants.{Bad, NoMemory}
 use Rattle.evaluate.specs.declared.values.Values.{Values}
-use Rattle.answers.specs.Groups.{is_bad, is_kept, verdict, verdict_of}
+use Rattle.answers.specs.Prelude.{AreVerdicts, IsBadRow, StopsAt, is_bad, is_kept, keeps, keeps_item, kept_in, rows_in, verdict, verdict_of}
 use Rattle.keys.proofs.SameLemmas.{either}
-use Rattle.answers.specs.Runs.{AreVerdicts, IsBadRow, StopsAt, keeps_item, keeps, kept_in, rows_in}
 
 -- ---- the filter
 

@@ -2,20 +2,14 @@
 use Rattle.std.proofs.Common.{◌≡◌, ◌∙◌, ℕ, ◌+◌, ◌≤◌, ◌^◌, List, ◌++◌, length, filter, All, inl, inr, sym, ap, subst, arith, length-append, zero-add}
 use Rattle.std.specs.Prelude.{Ok, position}
 use Rattle.std.proofs.lemmas.List.Elements.{All-append, All-filter, filter-append}
-use Rattle.arrays.specs.Batch.{Table}
-use Rattle.arrays.specs.Kind.{Kind}
-use Rattle.arrays.specs.Shape.{FieldShape}
+use Rattle.arrays.specs.Prelude.{FieldShape, Kind, Table}
 use Rattle.query.specs.QueryShape.{query_shape}
 use Rattle.query.specs.declared.fault.QueryFault.{QueryFault}
 use Rattle.query.specs.declared.fault.QueryFault.TheVariants.{Overflow}
 use Rattle.query.specs.declared.queries.Query.{Query}
-use Rattle.answers.specs.Answers.{IsRefusal}
-use Rattle.answers.specs.Grouping.{HasGroups}
-use Rattle.answers.specs.Groups.{GroupShape, groups, grouped, is_bad, is_kept, unless_bad}
+use Rattle.answers.specs.Prelude.{GroupShape, HasGroups, HasKept, HasRun, IsGood, IsPieceRefusal, IsRefusal, between, cut_at, grouped, groups, is_bad, is_kept, rows_between, unless_bad}
 use Rattle.tallies.specs.Kinds.{AreComparable}
 use Rattle.evaluate.specs.Rows.{kind_at}
-use Rattle.answers.specs.Pieces.{HasRun, IsGood, IsPieceRefusal, between, cut_at, rows_between}
-use Rattle.answers.specs.Runs.{HasKept}
 use Rattle.answers.specs.declared.grouping.Grouping.{Grouping}
 use Rattle.answers.proofs.AnsweringLemmas.{nowhere}
 use Rattle.answers.proofs.PieceLemmas.{all_between, both_parts, cuts_rise, cuts_within, first_cut, found_behind, found_in_front, front_whole, last_cut, length-between}

@@ -1,14 +1,12 @@
 -- What is known of the groups of the rows so far.
 use Rattle.std.specs.Prelude.{◌≡◌, ◌^◌, ◌≤◌, ◌+◌, ℕ, List, [], ◌∷◌, All, length, map, slice_index_or}
 use Rattle.std.specs.List.{IsDistinct, range_with_len}
-use Rattle.arrays.specs.Batch.{Batch, Table}
-use Rattle.arrays.specs.Item.{Item}
+use Rattle.arrays.specs.Prelude.{Batch, Item, Table}
 use Rattle.query.specs.declared.expr.Agg.{Agg}
 use Rattle.query.specs.declared.expr.Agg.TheVariants.{Rows}
 use Rattle.query.specs.declared.queries.Query.{Query}
 use Rattle.answers.specs.Groups.{GroupShape, keys_of, rows_of_key}
-use Rattle.keys.specs.Memo.{KnowsEntries, Remembers}
-use Rattle.keys.specs.Same.{same_key}
+use Rattle.keys.specs.Prelude.{KnowsEntries, Remembers, same_key}
 use Rattle.tallies.specs.Columns.{ColumnShape, column_of, show_column, cell_of_group}
 use Rattle.answers.specs.declared.grouping.Grouping.{Grouping}
 

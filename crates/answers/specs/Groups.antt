@@ -1,19 +1,13 @@
 -- The groups that a query asks for, over a list of rows.
 use Rattle.std.specs.Prelude.{ℕ, pos, ◌+ℤ◌, List, [], ◌∷◌, ◌++◌, Bool, true, false, not, Option, Some, None, is_none, unwrap_or, Result, Ok, Err, length, map, filter, position}
 use Rattle.std.specs.List.{reduce}
-use Rattle.arrays.specs.Batch.{Row, Table, column}
-use Rattle.arrays.specs.Item.{Item, null, int, boolean, text, list, is_null}
-use Rattle.arrays.specs.Slot.{item_of}
-use Rattle.arrays.specs.Shape.{FieldShape}
-use Rattle.query.specs.QueryShape.{QueryShape}
-use Rattle.query.specs.Tree.{Tree}
+use Rattle.arrays.specs.Prelude.{FieldShape, Item, Row, Table, boolean, column, int, is_null, item_of, list, null, text}
+use Rattle.query.specs.Prelude.{QueryShape, Tree}
 use Rattle.query.specs.declared.expr.Agg.{Agg}
 use Rattle.query.specs.declared.expr.Agg.TheVariants.{Rows, Count, Sum, Least, Greatest}
 use Rattle.evaluate.specs.Value.{value}
-use Rattle.group.specs.Stats.{numbers_of, lesser, greater}
-use Rattle.keys.specs.Same.{firsts, same_key}
-use Rattle.group.specs.Scalars.{item_or_null}
-use Rattle.keys.specs.Keys.{key_of}
+use Rattle.group.specs.Prelude.{greater, item_or_null, lesser, numbers_of}
+use Rattle.keys.specs.Prelude.{firsts, key_of, same_key}
 
 -- ---- which rows
 

@@ -2,7 +2,6 @@
 pub use Rattle.group.specs.Joined
 pub use Rattle.group.specs.Scalars
 pub use Rattle.group.specs.Stats
-pub use Rattle.group.specs.StatsOfColumns
 pub use Rattle.group.specs.Summary
 pub use Rattle.group.specs.declared.stats.ColumnStats
 pub use Rattle.group.specs.declared.stats.Scalar
@@ -22,3 +21,4 @@ pub mod Masks
 pub mod Pieces
 pub mod Answers
 pub mod Merging
+pub mod Prelude

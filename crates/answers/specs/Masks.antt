@@ -1,9 +1,7 @@
 -- Rows that are true, as the bits of a column of truth values tell them.
 use Rattle.std.specs.Prelude.{ℕ, List, Bool, ◌&&◌, Option, filter, length}
 use Rattle.std.specs.List.{range_with_len}
-use Rattle.arrays.specs.Bit.{bit_in}
-use Rattle.arrays.specs.Bitmap.{bit_of}
-use Rattle.arrays.specs.Seen.{valid_in}
+use Rattle.arrays.specs.Prelude.{bit_in, bit_of, valid_in}
 
 -- Whether row i is true: it is valid, and its bit is 1.
 abbrev pub is_set : Option (List Bool) → List Bool → ℕ → Bool

@@ -1,16 +1,12 @@
 -- What shards answer of a query, and the query over their answers that gives what is answered over all rows.
 use Rattle.std.specs.Prelude.{◌≡◌, ◌+◌, ◌||◌, ℕ, true, List, [], ◌∷◌, ◌++◌, None, Ok, All, length, map, flat_map, slice_index_or, ⊤}
 use Rattle.std.specs.List.{AllZip, range_with_len}
-use Rattle.arrays.specs.Item.{Item, null, is_null}
-use Rattle.arrays.specs.Kind.{Kind}
-use Rattle.arrays.specs.Shape.{FieldShape}
+use Rattle.arrays.specs.Prelude.{FieldShape, Item, Kind, Row, Table, is_null, null}
 use Rattle.query.specs.QueryShape.{QueryShape}
 use Rattle.query.specs.declared.expr.Agg.{Agg}
 use Rattle.query.specs.declared.expr.Agg.TheVariants.{Rows, Count, Sum, Least, Greatest}
 use Rattle.answers.specs.Groups.{GroupShape, groups}
-use Rattle.arrays.specs.Batch.{Row, Table}
-use Rattle.group.specs.StatsOfColumns.{Joins}
-use Rattle.group.specs.Stats.{is_ordered}
+use Rattle.group.specs.Prelude.{Joins, is_ordered}
 use Rattle.group.specs.declared.stats.ColumnStats.{ColumnStats}
 
 -- ---- the query over answers

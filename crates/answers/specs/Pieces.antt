@@ -1,11 +1,8 @@
 -- Pieces of the rows of all batches.
 use Rattle.std.specs.Prelude.{◌≡◌, ◌⊎◌, ◌≤◌, ◌^◌, ℕ, ◌+◌, ◌*◌, ◌/◌, false, true, List, Option, Some, Result, Ok, Err, All, length, map, position, take, drop}
 use Rattle.std.specs.Arc.{arc_value}
-use Rattle.arrays.specs.Batch.{Batch, Row, Table}
-use Rattle.arrays.specs.Shape.{FieldShape, kind_of_field}
-use Rattle.query.specs.QueryShape.{query_shape}
-use Rattle.query.specs.FirstFault.{fits}
-use Rattle.query.specs.Tree.{Tree}
+use Rattle.arrays.specs.Prelude.{Batch, FieldShape, Row, Table, kind_of_field}
+use Rattle.query.specs.Prelude.{Tree, fits, query_shape}
 use Rattle.query.specs.declared.fault.QueryFault.{QueryFault}
 use Rattle.query.specs.declared.fault.QueryFault.TheVariants.{Overflow, NoMemory}
 use Rattle.query.specs.declared.queries.Query.{Query}

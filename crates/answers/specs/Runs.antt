@@ -1,11 +1,8 @@
 -- What is known of the rows that a query keeps, slice by slice.
 use Rattle.std.specs.Prelude.{◌≡◌, ◌+◌, ◌<◌, ◌≤◌, ◌^◌, ℕ, Bool, true, false, List, Option, Some, None, unwrap_or, filter, length, map, ⊤}
 use Rattle.std.specs.List.{range_with_len}
-use Rattle.arrays.specs.Batch.{Batch, Table}
-use Rattle.arrays.specs.Item.{Item}
-use Rattle.arrays.specs.Shape.{FieldShape}
-use Rattle.query.specs.QueryShape.{query_shape}
-use Rattle.query.specs.Tree.{Tree}
+use Rattle.arrays.specs.Prelude.{Batch, FieldShape, Item, Table}
+use Rattle.query.specs.Prelude.{Tree, query_shape}
 use Rattle.query.specs.declared.queries.Query.{Query}
 use Rattle.query.specs.declared.sort.Sort.TheVariants.{Truth}
 use Rattle.evaluate.specs.Slices.{AreEnough, item_in, row_in, sort_in}

@@ -2,10 +2,8 @@
 
 ghost use Rattle.std.specs.Prelude.{◌≡◌, ◌≤◌, ◌^◌, All, IfErr, IfOk, length, map, true};
 ghost use Rattle.std.specs.Arc.{arc_value};
-ghost use Rattle.arrays.specs.Batch.{Batch};
-ghost use Rattle.arrays.specs.Shape.{kind_of_field};
-ghost use Rattle.query.specs.QueryShape.{query_shape};
-ghost use Rattle.query.specs.FirstFault.{fits};
+ghost use Rattle.arrays.specs.Prelude.{Batch, kind_of_field};
+ghost use Rattle.query.specs.Prelude.{fits, query_shape};
 ghost use Rattle.answers.specs.Answers.{IsAnswer, IsRefusal, all_rows, first_fields};
 
 use crate::common::common_texts;

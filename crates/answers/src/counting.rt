@@ -2,15 +2,11 @@
 
 ghost use Rattle.std.specs.Prelude.{◌≡◌, ◌≤◌, ◌^◌, All, None, length, map, true};
 ghost use Rattle.std.specs.Arc.{arc_value};
-ghost use Rattle.arrays.specs.Batch.{Batch, rows_of};
-ghost use Rattle.arrays.specs.Shape.{kind_of_field};
-ghost use Rattle.query.specs.QueryShape.{query_shape};
-ghost use Rattle.query.specs.CalledColumns.{sort_at};
-ghost use Rattle.query.specs.FirstFault.{agg_fault, fits};
+ghost use Rattle.arrays.specs.Prelude.{Batch, kind_of_field, rows_of};
+ghost use Rattle.query.specs.Prelude.{agg_fault, fits, query_shape, sort_at};
 ghost use Rattle.answers.specs.Answers.{all_rows, first_fields};
-ghost use Rattle.tallies.specs.Kinds.{AreComparable, IsComparable};
+ghost use Rattle.tallies.specs.Prelude.{AreComparable, IsComparable, item_for};
 ghost use Rattle.evaluate.specs.Rows.{kind_at};
-ghost use Rattle.tallies.specs.Tallies.{item_for};
 
 use arrays::RecordBatch;
 use evaluate::column::column_at;

@@ -2,8 +2,7 @@
 
 ghost use Rattle.std.specs.Prelude.{◌≡◌, ◌<◌, ◌+◌, ◌^◌, ℕ, IfOk, IfErr, None, OnOk, Some, filter, length, true};
 ghost use Rattle.std.specs.List.{range_with_len};
-ghost use Rattle.query.specs.QueryShape.{query_shape};
-ghost use Rattle.query.specs.FirstFault.{fits};
+ghost use Rattle.query.specs.Prelude.{fits, query_shape};
 ghost use Rattle.answers.specs.Masks.{set_rows};
 ghost use Rattle.answers.specs.Runs.{AreTruths, AreVerdicts, StopsAt, keeps, kept_in};
 

@@ -1,17 +1,10 @@
 //! The groups of rows, while they come.
 
 ghost use Rattle.std.specs.Prelude.{◌≡◌, ◌<◌, ◌≤◌, ◌+◌, ◌^◌, ◌++◌, [], All, IfOk, List, None, OnOk, ℕ, length, map, true};
-ghost use Rattle.arrays.specs.Batch.{Batch, Table, row_of};
-ghost use Rattle.arrays.specs.Kind.{Kind};
-ghost use Rattle.query.specs.QueryShape.{query_shape};
-ghost use Rattle.query.specs.CalledColumns.{sort_at};
-ghost use Rattle.query.specs.FirstFault.{agg_fault, fits};
-ghost use Rattle.tallies.specs.Columns.{column_of, show_column, IsColumnOf};
+ghost use Rattle.arrays.specs.Prelude.{Batch, Kind, Table, row_of};
+ghost use Rattle.query.specs.Prelude.{agg_fault, fits, query_shape, sort_at};
+ghost use Rattle.tallies.specs.Prelude.{AreAlike, AreComparable, IsColumnOf, column_of, padded, show_column, spread, spread_all, tally_of};
 ghost use Rattle.answers.specs.Grouping.{CountsRows, HasGroups, HasGroupRoom, IsReadyFor};
-ghost use Rattle.tallies.specs.Kinds.{AreComparable};
-ghost use Rattle.tallies.specs.Merging.{AreAlike, spread_all};
-ghost use Rattle.tallies.specs.Spread.{padded, spread};
-ghost use Rattle.tallies.specs.Tallies.{tally_of};
 
 use arrays::{NoMemory, RecordBatch};
 use keys::{KeyColumns, KeySet, Memo, TextSet, intern_keys, intern_rows};

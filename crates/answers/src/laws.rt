@@ -2,10 +2,7 @@
 
 ghost use Rattle.std.specs.Prelude.{◌≡◌, ◌≤◌, ◌+◌, ◌∷◌, ◌++◌, ℕ, List, All, Err, filter, flat_map, length};
 ghost use Rattle.std.specs.List.{AllZip};
-ghost use Rattle.arrays.specs.Batch.{Row, Table};
-ghost use Rattle.arrays.specs.Item.{Item};
-ghost use Rattle.arrays.specs.Kind.{Kind};
-ghost use Rattle.arrays.specs.Shape.{FieldShape};
+ghost use Rattle.arrays.specs.Prelude.{FieldShape, Item, Kind, Row, Table};
 ghost use Rattle.group.specs.Summary.{AreStats};
 ghost use Rattle.group.specs.declared.stats.ColumnStats.{ColumnStats};
 ghost use Rattle.query.specs.QueryShape.{QueryShape};

@@ -2,9 +2,8 @@
 
 ghost use Rattle.std.specs.Prelude.{◌≡◌, ◌+◌, ◌<◌, ◌^◌, ◌++◌, ℕ, OnOk, filter, length, map};
 ghost use Rattle.std.specs.List.{range_with_len};
-ghost use Rattle.arrays.specs.Bit.{bit_in};
+ghost use Rattle.arrays.specs.Prelude.{bit_in, item_at};
 ghost use Rattle.arrays.specs.Kind as kind;
-ghost use Rattle.arrays.specs.Slot.{item_at};
 ghost use Rattle.answers.specs.Masks.{is_set, ones_of, set_rows};
 ghost use Rattle.answers.specs.Runs.{keeps_item};
 

@@ -1,8 +1,7 @@
 //! What is known of neighbouring pieces.
 
 ghost use Rattle.std.specs.Prelude.{ℕ, List};
-ghost use Rattle.arrays.specs.Batch.{Table};
-ghost use Rattle.arrays.specs.Shape.{FieldShape};
+ghost use Rattle.arrays.specs.Prelude.{FieldShape, Table};
 ghost use Rattle.answers.specs.Pieces.{AreLooked, AreNeighbours};
 
 use crate::grouping::Grouping;

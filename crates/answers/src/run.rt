@@ -2,8 +2,7 @@
 
 ghost use Rattle.std.specs.Prelude.{◌≡◌, ◌+◌, ◌<◌, ◌≤◌, ◌^◌, ◌++◌, IfErr, IfOk, None, OnOk, true};
 ghost use Rattle.arrays.specs.Batch.{Table};
-ghost use Rattle.query.specs.QueryShape.{query_shape};
-ghost use Rattle.query.specs.FirstFault.{fits};
+ghost use Rattle.query.specs.Prelude.{fits, query_shape};
 ghost use Rattle.answers.specs.Grouping.{CountsRows, IsReadyFor};
 ghost use Rattle.answers.specs.Runs.{AreSound, HasKept, HasRowRoom, StopsAt, rows_in};
 

@@ -9,16 +9,12 @@ use Rattle.std.proofs.lemmas.Bool.Decides.{nat_tests}
 use Rattle.std.proofs.lemmas.Bool.{true≢false, eqb-true, not-false, or_parts}
 use Rattle.std.specs.Option.{option_or}
 use Rattle.types.specs.declared.data_type.Field.{Field, out-Field}
-use Rattle.arrays.specs.Batch.{differing_type, Batch, row_of, rows_of, column, bad_length, batch_fault, differing_length, Table}
-use Rattle.arrays.specs.Item.{null}
-use Rattle.arrays.specs.Shape.{FieldShape, kind_of_field}
+use Rattle.arrays.specs.Prelude.{Batch, FieldShape, Table, bad_length, batch_fault, column, differing_length, differing_type, kind_of_field, null, row_of, rows_of}
 use Rattle.arrays.specs.declared.batch.BatchFault.TheVariants.{ColumnCount, LengthsDiffer, TypeDiffers}
 use Rattle.layout.specs.Seen.{Seen}
 use Rattle.layout.proofs.ChildLemmas.{same_kinds}
-use Rattle.types.specs.Kind.{kind_of, same_kind}
-use Rattle.types.specs.Shape.{fields_of, field_of}
+use Rattle.types.specs.Prelude.{field_of, fields_of, kind_of, most_slots, same_kind}
 use Rattle.types.proofs.ShapeLemmas.{kind_of_field-field_of}
-use Rattle.types.specs.Limits.{most_slots}
 
 length-zip-map : {A B C : Type 0} (f : B → C) (xs : List A) (ys : List B) → length (zip xs (map f ys)) ≡ length (zip xs ys)
 length-zip-map f [] ys = refl

@@ -7,21 +7,14 @@ use Rattle.std.proofs.lemmas.Nat.{row_fits}
 use Rattle.std.proofs.Math.Seq.{get_or-append_seam, take-append_seam}
 use Rattle.types.specs.declared.int_type.IntType.{IntType}
 use Rattle.types.specs.Kind as kind
-use Rattle.types.specs.Kind.{bytes_of}
-use Rattle.layout.specs.Item.{Item, null, int}
-use Rattle.types.specs.Number.{number_at, IsOfType, bytes_of_number}
-use Rattle.arrays.specs.Column.{Column}
-use Rattle.arrays.specs.FromParts.{show_numbers}
-use Rattle.arrays.specs.Packed.{IsBufferOf}
-use Rattle.layout.specs.Seen.{Seen, valid_at, valid_in}
-use Rattle.arrays.specs.Shown.{kept, shown}
-use Rattle.arrays.specs.Values.{HasNumbers}
-use Rattle.arrays.specs.Builder.{built, item_at, numbers_where, IsBuilt}
+use Rattle.types.specs.Prelude.{IsOfType, bytes_of, bytes_of_number, most_slots, number_at}
+use Rattle.layout.specs.Prelude.{Item, Seen, int, null, valid_at, valid_in}
+use Rattle.arrays.specs.Prelude.{Column, HasNumbers, IsBufferOf, IsBuilt, built, kept, numbers_where, show_numbers, shown}
+use Rattle.arrays.specs.Builder.{item_at}
 use Rattle.layout.proofs.RangeLists.{map-range-below}
 use Rattle.arrays.proofs.ListLemmas.{map-range-joined}
 use Rattle.types.proofs.EncodingLemmas.{length-bytes_of_number, number_at-append-front, number_at-append-end, number_at-append-past}
 use Rattle.arrays.proofs.FinishedLemmas.{slots_shown}
-use Rattle.types.specs.Limits.{most_slots}
 
 -- one row more
 pub more_rows : (n w : ℕ) → n * w + w ≡ (n + 1) * w

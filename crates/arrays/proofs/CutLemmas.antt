@@ -9,10 +9,8 @@ use Rattle.std.proofs.Math.Seq.{take-length}
 use Rattle.types.specs.declared.offset_width.OffsetWidth.{OffsetWidth}
 use Rattle.types.specs.declared.offset_width.OffsetWidth.TheVariants.{Narrow, Wide}
 use Rattle.layout.specs.Item.{Item, null, text, list, list_of}
-use Rattle.arrays.specs.Growing.{cut_texts, AreTextsOf, IsText}
-use Rattle.arrays.specs.Lengths.{cut, is_past, total, text_length, text_bytes}
-use Rattle.types.specs.Limits.{most_slots}
-use Rattle.types.specs.OffsetSize.{is_full}
+use Rattle.arrays.specs.Prelude.{AreTextsOf, IsText, cut, cut_texts, is_past, text_bytes, text_length, total}
+use Rattle.types.specs.Prelude.{is_full, most_slots}
 use Rattle.colbits.specs.Slice.{slice}
 
 -- ---- how long slots are together

@@ -8,20 +8,13 @@ use Rattle.std.proofs.lemmas.List.Elements.{All-tail}
 use Rattle.std.proofs.lemmas.Simd.{map-map}
 use Rattle.std.proofs.lemmas.List.FromFn.{get_or-map-range_with_len}
 use Rattle.std.proofs.lemmas.Bool.Decides.{nat_tests}
-use Rattle.layout.specs.Item.{Item, boolean, int, list, null, text}
+use Rattle.layout.specs.Prelude.{Buffers, Item, Reading, Seen, boolean, checked_texts, code_at, codes, column, inner_of, int, is_no_code, is_valid, least_row, list, null, read_parts, text, validity_of}
 use Rattle.types.specs.Kind as kind
-use Rattle.types.specs.Kind.{Kind, int32, kind_of, kind_step, same_kind}
+use Rattle.types.specs.Prelude.{Kind, first, int32, is_negative, kind_of, kind_step, natural, same_kind}
 use Rattle.types.specs.declared.data_type.DataType.{DataType, fold_out-DataType, map-DataType}
 use Rattle.types.specs.declared.data_type.DataType.TheVariants.{Dict, outs-Dict}
 use Rattle.types.specs.declared.data_type.Field.{Field, fold-Field}
-use Rattle.layout.specs.Layout.{Buffers, column, codes, code_at, is_valid, validity_of}
-use Rattle.types.specs.Number.{natural, is_negative}
-use Rattle.types.specs.First.{first}
-use Rattle.layout.specs.Fault.{is_no_code, least_row}
 use Rattle.arrays.specs.Dictionary.{codes_of, encoded, entries_shown, is_code, looked_up, over}
-use Rattle.layout.specs.Seen.{Seen}
-use Rattle.layout.specs.Reading.{Reading, inner_of, read_parts}
-use Rattle.layout.specs.Checked.{checked_texts}
 use Rattle.layout.proofs.FirstFaultLemmas.{IsWhole, own_fault-whole}
 use Rattle.layout.proofs.LawfulLemmas.{texts_of, either_false, none_present, no_dictionary}
 use Rattle.layout.proofs.RangeLists.{map-range-below}

@@ -10,21 +10,10 @@ use Rattle.std.proofs.lemmas.List.Elements.{All-from_get_or}
 use Rattle.std.proofs.lemmas.List.FromFn.{get_or-map-range_with_len, length-map-range_with_len}
 use Rattle.std.proofs.lemmas.Option.{slice_get-map, get_or_from_slice_get}
 use Rattle.colbits.specs.Slice.{slice}
-use Rattle.layout.specs.Item.{Item, null, int}
+use Rattle.layout.specs.Prelude.{Buffers, Inner, Item, Reading, Seen, checked_texts, child_fault, code_at, codes, column, do_parts_differ, entries_of, entry_count, inner_of, int, is_no_code, is_valid, null, own_fault, part, read_parts, reading, valid_at}
 use Rattle.types.specs.Kind as kind
-use Rattle.types.specs.Kind.{Kind, int32, same_kind}
-use Rattle.layout.specs.Layout.{Buffers, is_valid, column, codes, code_at}
-use Rattle.types.specs.Number.{natural, number_at, is_negative}
-use Rattle.types.specs.First.{first}
-use Rattle.layout.specs.Fault.{Inner, own_fault, do_parts_differ, is_no_code, entry_count}
-use Rattle.layout.specs.Seen.{Seen, part, valid_at}
-use Rattle.arrays.specs.Values.{HasNumbers}
-use Rattle.layout.specs.Reading.{Reading, read_parts, reading, inner_of, child_fault, entries_of}
-use Rattle.layout.specs.Checked.{checked_texts}
-use Rattle.arrays.specs.Dictionary.{looked_up, is_code, encoded, codes_of, dictionary_of, entries_shown, texts_alone}
-use Rattle.arrays.specs.View.{read_view, show_view}
-use Rattle.arrays.specs.Slot.{is_text}
-use Rattle.arrays.specs.ViewType.{view_kind}
+use Rattle.types.specs.Prelude.{Kind, first, int32, is_negative, natural, number_at, same_kind}
+use Rattle.arrays.specs.Prelude.{HasNumbers, codes_of, dictionary_of, encoded, entries_shown, is_code, is_text, looked_up, read_view, show_view, texts_alone, view_kind}
 use Rattle.arrays.specs.declared.view.ViewType.{ViewType}
 use Rattle.arrays.specs.declared.view.ViewType.TheVariants as type
 use Rattle.types.specs.declared.offset_width.OffsetWidth.{OffsetWidth}

@@ -10,20 +10,14 @@ use Rattle.std.proofs.lemmas.Nat.{row_fits}
 use Rattle.colbits.specs.Slice.{slice}
 use Rattle.colbits.proofs.BitLemmas.{drop-map-range, map-range-same}
 use Rattle.types.specs.declared.offset_width.OffsetWidth.{OffsetWidth}
-use Rattle.types.specs.Number.{is_negative, natural, number_at}
-use Rattle.types.specs.OffsetSize.{is_full, most_of, offset_type, size_of}
+use Rattle.types.specs.Prelude.{is_full, is_negative, most_of, natural, number_at, offset_type, size_of}
 use Rattle.types.proofs.EncodingLemmas.{number_at-append-front, number_at-append-past}
-use Rattle.layout.specs.Item.{Item, null, text}
-use Rattle.layout.specs.Offsets.{AreBytesOf, AreOffsetBytes, AreOffsets, length_at, length_of, of_slot, start_at, start_of}
-use Rattle.layout.specs.Seen.{valid_in}
+use Rattle.layout.specs.Prelude.{AreBytesOf, AreOffsetBytes, AreOffsets, Item, length_at, length_of, null, of_slot, start_at, start_of, text, valid_in}
 use Rattle.layout.proofs.RangeLists.{map-range-below}
 use Rattle.layout.proofs.OffsetParts.{ends_within}
 use Rattle.arrays.specs.declared.builder.fault.BuildFault.{BuildFault}
 use Rattle.arrays.specs.declared.view.texts.Texts.{Texts}
-use Rattle.arrays.specs.Growing.{AreFresh, AreTextsOf, IsText, cut_texts, lengths_by, lengths_where}
-use Rattle.arrays.specs.Lengths.{IsBuildFault, IsFull, text_bytes, text_length, total}
-use Rattle.arrays.specs.Slot.{item_of_text}
-use Rattle.arrays.specs.Values.{items_of_texts, text_in, text_items}
+use Rattle.arrays.specs.Prelude.{AreFresh, AreTextsOf, IsBuildFault, IsFull, IsText, cut_texts, item_of_text, items_of_texts, lengths_by, lengths_where, text_bytes, text_in, text_items, text_length, total}
 use Rattle.arrays.proofs.LaidLemmas.{total-fresh}
 use Rattle.arrays.proofs.CutLemmas.{Rises, TextsGrown, bytes_grown, cut-from, cut-taken, full-grows, slot_length, texts_cut, texts_grow, total-from, total-joined, total-push}
 

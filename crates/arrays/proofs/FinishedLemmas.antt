@@ -4,13 +4,9 @@ use Rattle.std.specs.List.{range_with_len}
 use Rattle.std.proofs.lemmas.Simd.{map-map}
 use Rattle.colbits.specs.Bit.{bits}
 use Rattle.colbits.proofs.BitLemmas.{listed}
-use Rattle.layout.specs.Item.{Item, null, is_null}
+use Rattle.layout.specs.Prelude.{Item, Seen, is_null, is_valid_in, no_entries, null}
 use Rattle.types.specs.Kind.{Kind}
-use Rattle.layout.specs.Layout.{is_valid_in}
-use Rattle.arrays.specs.FromParts.{show_slots}
-use Rattle.arrays.specs.Packed.{IsBufferOf}
-use Rattle.layout.specs.Seen.{Seen, no_entries}
-use Rattle.arrays.specs.Shown.{kept, shown}
+use Rattle.arrays.specs.Prelude.{IsBufferOf, kept, show_slots, shown}
 use Rattle.layout.proofs.RangeLists.{map-range-below}
 use Rattle.arrays.proofs.ValidityLemmas.{IsKept, kept_buffer, is_there, slot_same}
 

@@ -7,18 +7,11 @@ use Rattle.types.specs.declared.int_type.IntType.{IntType}
 use Rattle.types.specs.declared.offset_width.OffsetWidth.{OffsetWidth}
 use Rattle.types.specs.Kind as kind
 use Rattle.layout.specs.declared.raw.RawArray.{RawArray}
-use Rattle.types.specs.Kind.{Kind, bytes_of}
-use Rattle.types.specs.OffsetSize.{offset_type, size_of}
-use Rattle.layout.specs.Layout.{Buffers, column, is_valid_in}
-use Rattle.types.specs.Number.{natural, number_at, is_negative}
-use Rattle.types.specs.First.{first}
-use Rattle.layout.specs.Fault.{own_fault, is_validity_short, are_offsets_short, least_row}
+use Rattle.types.specs.Prelude.{Kind, bytes_of, first, is_negative, most_slots, natural, number_at, offset_type, size_of}
+use Rattle.layout.specs.Prelude.{AreOffsetBytes, Buffers, are_offsets_short, column, is_valid_in, is_validity_short, least_row, own_fault, read_parts, reading, slot_at, start_at}
 use Rattle.arrays.specs.FromParts.{AreTexts, show_bits, show_numbers, show_texts}
-use Rattle.layout.specs.Offsets.{AreOffsetBytes, slot_at, start_at}
-use Rattle.layout.specs.Reading.{read_parts, reading}
 use Rattle.layout.proofs.FirstFaultLemmas.{own_fault-whole}
 use Rattle.layout.proofs.RowLemmas.{any_none, least_none}
-use Rattle.types.specs.Limits.{most_slots}
 
 -- parts without a child, as they were handed in
 pub read_same : (k l : Kind) (m n : ℕ) (buffers parts : Buffers) (children : List RawArray) → k ≡ l → m ≡ n → buffers ≡ parts → children ≡ []

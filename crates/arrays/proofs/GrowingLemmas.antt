@@ -4,16 +4,11 @@ use Rattle.std.specs.List.{range_with_len}
 use Rattle.std.proofs.lemmas.List.{get_or_append_left}
 use Rattle.std.proofs.lemmas.List.FromFn.{map-range_with_len_more, length-map-range_with_len}
 use Rattle.std.proofs.Math.Seq.{get_or-append_seam}
-use Rattle.colbits.specs.Bit.{bit, bits}
-use Rattle.colbits.specs.Bitmap.{IsBitmapOf}
+use Rattle.colbits.specs.Prelude.{IsBitmapOf, bit, bits}
 use Rattle.colbits.proofs.BitLemmas.{get_or-bits}
-use Rattle.arrays.specs.Growing.{bools_where}
+use Rattle.arrays.specs.Prelude.{IsBufferOf, bools_where, item_of_bool, kept, show_bits, shown}
 use Rattle.layout.specs.Item.{Item, null, boolean}
 use Rattle.types.specs.Kind as kind
-use Rattle.arrays.specs.FromParts.{show_bits}
-use Rattle.arrays.specs.Packed.{IsBufferOf}
-use Rattle.arrays.specs.Shown.{kept, shown}
-use Rattle.arrays.specs.Slot.{item_of_bool}
 use Rattle.arrays.proofs.FinishedLemmas.{slots_shown}
 use Rattle.layout.proofs.RangeLists.{map-range-below}
 

@@ -9,26 +9,16 @@ use Rattle.std.proofs.lemmas.List.Elements.{All-get_or}
 use Rattle.std.proofs.lemmas.List.FromFn.{fill_by_all, get_or-map-range_with_len, map-range_with_len_more, length-map-range_with_len}
 use Rattle.std.proofs.lemmas.Simd.{map-map}
 use Rattle.std.proofs.Math.Seq.{get_or-append_seam}
-use Rattle.layout.specs.Item.{Item, null, text, list, list_of, is_null}
+use Rattle.layout.specs.Prelude.{AreOffsetBytes, Item, Seen, is_null, is_valid_in, length_at, list, list_of, no_entries, null, slot_at, start_at, text}
 use Rattle.types.specs.declared.offset_width.OffsetWidth.{OffsetWidth}
 use Rattle.types.specs.declared.offset_width.OffsetWidth.TheVariants.{Narrow, Wide}
 use Rattle.types.specs.Kind as kind
-use Rattle.types.specs.Kind.{Kind}
-use Rattle.types.specs.OffsetSize.{is_full, most_of, offset_type, size_of}
-use Rattle.layout.specs.Layout.{is_valid_in}
-use Rattle.types.specs.Number.{natural, number_at, is_negative, IsOfType, bytes_of_number}
-use Rattle.arrays.specs.Growing.{cut_texts, lengths_where, AreFresh, AreLaid, AreTextsOf, IsText}
-use Rattle.arrays.specs.Lengths.{cut, is_past, total}
-use Rattle.arrays.specs.FromParts.{AreTexts, show_lists, show_slots, show_texts}
-use Rattle.layout.specs.Offsets.{AreOffsetBytes, length_at, slot_at, start_at}
-use Rattle.arrays.specs.Packed.{IsBufferOf}
-use Rattle.layout.specs.Seen.{Seen, no_entries}
-use Rattle.arrays.specs.Shown.{kept, shown}
+use Rattle.types.specs.Prelude.{IsOfType, Kind, bytes_of_number, is_full, is_negative, most_of, most_slots, natural, number_at, offset_type, size_of}
+use Rattle.arrays.specs.Prelude.{AreFresh, AreLaid, AreTexts, AreTextsOf, IsBufferOf, IsText, cut, cut_texts, is_past, kept, lengths_where, show_lists, show_slots, show_texts, shown, total}
 use Rattle.arrays.proofs.CutLemmas.{cut_by, cut-from, lists_cut, slot_length, Rises, texts_cut, total-from, total-push}
 use Rattle.types.proofs.EncodingLemmas.{length-bytes_of_number, number_at-append-front, number_at-append-end}
 use Rattle.layout.proofs.RangeLists.{map-range-below}
 use Rattle.arrays.proofs.ValidityLemmas.{IsKept, kept_buffer}
-use Rattle.types.specs.Limits.{most_slots}
 
 -- ---- one offset more
 

@@ -2,10 +2,8 @@
 use Rattle.std.proofs.Common.{◌≡◌, ◌∙◌, ap, sym}
 use Rattle.std.specs.Arc.{arc_value}
 use Rattle.types.specs.Kind.{Kind, kind_of}
-use Rattle.layout.specs.Seen.{Seen}
-use Rattle.layout.specs.Reading.{Reading}
-use Rattle.arrays.specs.Array.{kind_with, read_array, show_array}
-use Rattle.arrays.specs.Lent.{read_lent}
+use Rattle.layout.specs.Prelude.{Reading, Seen}
+use Rattle.arrays.specs.Prelude.{kind_with, read_array, read_lent, show_array}
 use Rattle.arrays.specs.declared.array.Array.TheInside.{Inside}
 use Rattle.arrays.specs.declared.lent.LentParts.{LentParts}
 use Rattle.arrays.proofs.PartsLemmas.{kind-array}

@@ -6,24 +6,14 @@ use Rattle.std.specs.Arc.{arc_value}
 use Rattle.types.specs.declared.offset_width.OffsetWidth.{OffsetWidth}
 use Rattle.types.specs.declared.offset_width.OffsetWidth.TheVariants.{Narrow, Wide}
 use Rattle.types.specs.Kind as kind
-use Rattle.types.specs.Kind.{Kind, bytes_of, depth, kind_of, same_kind, same_offsets}
-use Rattle.layout.specs.Seen.{Seen}
-use Rattle.layout.specs.Checked.{checked, checked_texts}
-use Rattle.arrays.specs.Array.{kind_with, read_array, show_array, words_with}
-use Rattle.arrays.specs.Parts.{read_alone}
-use Rattle.layout.specs.Reading.{Reading, read_parts, reading, inner_of}
-use Rattle.types.specs.First.{first}
-use Rattle.layout.specs.Fault.{Inner, do_parts_differ, is_validity_short, own_fault}
-use Rattle.layout.specs.Offsets.{AreOffsetBytes, start_at}
-use Rattle.layout.specs.Inner.{inner_children, inner_dictionary, own_fault_of}
-use Rattle.arrays.specs.FromParts.{show_lists, list_parts}
+use Rattle.types.specs.Prelude.{Kind, bytes_of, depth, first, kind_of, most_slots, same_kind, same_offsets}
+use Rattle.layout.specs.Prelude.{AreOffsetBytes, Buffers, Inner, Reading, Seen, checked, checked_texts, column, do_parts_differ, inner_children, inner_dictionary, inner_of, is_validity_short, own_fault, own_fault_of, read_parts, reading, start_at}
+use Rattle.arrays.specs.Prelude.{kind_with, list_parts, read_alone, read_array, show_array, show_lists, words_with}
 use Rattle.arrays.specs.declared.array.Array.TheInside.{Inside}
-use Rattle.layout.specs.Layout.{Buffers, column}
 use Rattle.layout.proofs.FirstFaultLemmas.{own_fault-whole, present-reading}
 use Rattle.arrays.proofs.FromPartsLemmas.{offsets_pass}
 use Rattle.arrays.proofs.PartsLemmas.{kind-array, kind-plain}
 use Rattle.layout.proofs.LawfulLemmas.{either_false, no_dictionary, parts_agree, reading-again}
-use Rattle.types.specs.Limits.{most_slots}
 
 -- ---- the parts of an array that has no dictionary
 

@@ -2,15 +2,10 @@
 use Rattle.std.proofs.Common.{◌≡◌, ◌∙◌, ℕ, zero, suc, List, [], ◌∷◌, Option, None, ap, replicate, refl, sym}
 use Rattle.types.specs.declared.data_type.Field.{Field, out-Field}
 use Rattle.types.specs.declared.offset_width.OffsetWidth.{OffsetWidth}
-use Rattle.types.specs.Kind.{Kind, boolean, dict, int, int32, kind_of, lists, texts, utf8}
-use Rattle.types.specs.Shape.{field_of, kind_of_field}
+use Rattle.types.specs.Prelude.{Kind, boolean, dict, field_of, int, int32, kind_of, kind_of_field, lists, texts, utf8}
 use Rattle.types.proofs.ShapeLemmas.{kind_of_field-field_of}
-use Rattle.layout.specs.Item.{Item, null}
-use Rattle.layout.specs.Seen.{Seen}
-use Rattle.arrays.specs.Dictionary.{encoded}
-use Rattle.arrays.specs.Lengths.{cut}
-use Rattle.arrays.specs.Nulls.{nulls}
-use Rattle.arrays.specs.Shown.{shown}
+use Rattle.layout.specs.Prelude.{Item, Seen, null}
+use Rattle.arrays.specs.Prelude.{cut, encoded, nulls, shown}
 
 -- null codes with no entries are nulls
 pub null_codes : (codes entries : Seen) (n : ℕ) → codes ≡ nulls (int int32) n → entries ≡ nulls utf8 0 → encoded codes entries ≡ nulls dict n

@@ -11,11 +11,8 @@ use Rattle.types.specs.Kind as kind
 use Rattle.types.specs.declared.int_type.Width.{Width}
 use Rattle.types.specs.declared.int_type.Width.TheVariants.{W8, W16, W32, W64}
 use Rattle.layout.specs.Seen.{Seen}
-use Rattle.arrays.specs.Slot.{is_int}
-use Rattle.arrays.specs.View.{show_view}
-use Rattle.arrays.specs.ViewType.{view_kind}
+use Rattle.arrays.specs.Prelude.{IsOfType, is_int, show_view, view_kind}
 use Rattle.arrays.proofs.PartLemmas.{kind_shown}
-use Rattle.arrays.specs.Number.{IsOfType}
 
 pub int_kind : (v : Inside) (s : Seen) (int : IntType) → show_view v ≡ s → v.ty ≡ type.Int int → s.kind ≡ kind.int int
 int_kind v s int shows is = sym (kind_shown v s shows) ∙ ap view_kind is

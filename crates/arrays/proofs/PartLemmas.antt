@@ -6,28 +6,15 @@ use Rattle.std.specs.Str.{is_utf8}
 use Rattle.std.proofs.lemmas.Str.{IsUtf8-from_is_utf8}
 use Rattle.std.proofs.lemmas.List.FromFn.{get_or-map-range_with_len}
 use Rattle.std.proofs.lemmas.Option.{slice_get-get_or, get_or_from_slice_get}
-use Rattle.colbits.specs.Bit.{bits}
-use Rattle.colbits.specs.Slice.{slice}
+use Rattle.colbits.specs.Prelude.{bits, slice}
 use Rattle.colbits.proofs.BitLemmas.{get_or-bits, length-bits}
 use Rattle.layout.specs.declared.raw.RawArray.{RawArray, out-RawArray}
-use Rattle.layout.specs.Item.{Item, null, is_null, boolean, text, list, list_of}
+use Rattle.layout.specs.Prelude.{AreOffsets, Buffers, Item, Reading, Seen, are_offsets_short, bad_text_row, boolean, buffer_at, bytes_at, bytes_for, checked_texts, child_fault, child_items, child_length, column, dictionary_fault, entries_of, fault, inner_of, is_no_child, is_no_text, is_null, is_valid, list, list_of, null, of_slot, offsets_in, own_fault, part, read_parts, reading, slot_at, text, valid_at, valid_in, value_at}
 use Rattle.types.specs.declared.offset_width.OffsetWidth.{OffsetWidth}
 use Rattle.types.specs.Kind as kind
-use Rattle.types.specs.Kind.{Kind, item_kind, kind_of, same_kind}
-use Rattle.types.specs.OffsetSize.{offset_type}
-use Rattle.types.specs.Number.{is_negative, number_at}
-use Rattle.layout.specs.Layout.{Buffers, bytes_at, buffer_at, is_valid, column, value_at}
+use Rattle.types.specs.Prelude.{Kind, first, is_negative, item_kind, kind_of, most_slots, number_at, offset_type, same_kind}
 use Rattle.layout.specs.declared.fault.LayoutFault.{LayoutFault}
-use Rattle.types.specs.First.{first}
-use Rattle.layout.specs.Fault.{are_offsets_short, own_fault, bytes_for, child_length, is_no_child, bad_text_row, is_no_text}
-use Rattle.layout.specs.Seen.{Seen, part, valid_in, valid_at}
-use Rattle.layout.specs.Reading.{Reading, read_parts, reading, inner_of, fault, child_fault, dictionary_fault, child_items, entries_of}
-use Rattle.layout.specs.Checked.{checked_texts}
-use Rattle.layout.specs.Offsets.{AreOffsets, of_slot, offsets_in, slot_at}
-use Rattle.arrays.specs.Values.{HasBits, HasTexts, HasLists, valid_values}
-use Rattle.arrays.specs.Slot.{holds_at, is_list}
-use Rattle.arrays.specs.View.{read_view, show_view}
-use Rattle.arrays.specs.ViewType.{view_kind}
+use Rattle.arrays.specs.Prelude.{HasBits, HasLists, HasTexts, holds_at, is_list, read_view, show_view, valid_values, view_kind}
 use Rattle.arrays.specs.declared.view.View.TheInside.{Inside}
 use Rattle.arrays.specs.declared.view.ViewType.{ViewType}
 use Rattle.arrays.specs.declared.view.ViewType.TheVariants as type
@@ -43,7 +30,6 @@ use Rattle.layout.proofs.SeenLemmas.{length-items, length-slice, seen-kind, shor
 use Rattle.arrays.proofs.ViewLemmas.{length-show_view, kind-show_view}
 use Rattle.arrays.proofs.ValidityLemmas.{is_there}
 use Rattle.layout.proofs.LawfulLemmas.{either_false}
-use Rattle.types.specs.Limits.{most_slots}
 
 -- ---- the items of part of an array, by the value of each slot
 

@@ -3,10 +3,7 @@ use Rattle.std.proofs.Common.{◌≡◌, ◌≢◌, ℕ, List, map, false, lengt
 use Rattle.std.specs.Arc.{arc_value}
 use Rattle.types.specs.Kind as kind
 use Rattle.types.specs.Kind.{Kind, kind_of, same_kind}
-use Rattle.layout.specs.Fault.{Inner, do_parts_differ}
-use Rattle.layout.specs.Layout.{Buffers}
-use Rattle.layout.specs.Reading.{Reading, inner_of, read_parts, reading}
-use Rattle.layout.specs.Checked.{checked_texts}
+use Rattle.layout.specs.Prelude.{Buffers, Inner, Reading, checked_texts, do_parts_differ, inner_of, read_parts, reading}
 use Rattle.layout.proofs.SeenLemmas.{length-items, seen-kind}
 use Rattle.layout.proofs.LawfulLemmas.{either_false, no_dictionary, parts_agree}
 use Rattle.arrays.specs.Array.{kind_with, show_array, words_with}

@@ -11,15 +11,10 @@ use Rattle.std.proofs.Math.Seq.{take-add}
 use Rattle.std.proofs.lemmas.Bool.{or_parts}
 use Rattle.types.specs.declared.offset_width.OffsetWidth.{OffsetWidth}
 use Rattle.types.specs.declared.offset_width.OffsetWidth.TheVariants.{Narrow, Wide}
-use Rattle.types.specs.OffsetSize.{most_of}
+use Rattle.types.specs.Prelude.{Kind, item_kind, most_of, most_slots}
 use Rattle.types.specs.Kind as kind
-use Rattle.types.specs.Kind.{Kind, item_kind}
-use Rattle.types.specs.Limits.{most_slots}
-use Rattle.layout.specs.Item.{Item, null, list, list_of, text}
-use Rattle.layout.specs.Offsets.{length_of, of_slot, start_of}
-use Rattle.layout.specs.Seen.{Seen, valid_at}
-use Rattle.arrays.specs.Lengths.{inner_items, is_past, is_too_big, items_in, text_bytes, text_length}
-use Rattle.arrays.specs.Values.{HasLists, HasTexts}
+use Rattle.layout.specs.Prelude.{Item, Seen, length_of, list, list_of, null, of_slot, start_of, text, valid_at}
+use Rattle.arrays.specs.Prelude.{HasLists, HasTexts, inner_items, is_past, is_too_big, items_in, text_bytes, text_length}
 use Rattle.arrays.proofs.ListLemmas.{items_of-list_of}
 
 not_past : (n : ℕ) → n ≤ most_slots → is_past n ≡ false

@@ -6,24 +6,14 @@ use Rattle.std.proofs.lemmas.List.Sums.{sum_by-cons}
 use Rattle.std.proofs.lemmas.Nat.{row_fits, mul-le}
 use Rattle.std.proofs.lemmas.Option.{slice_get-get_or}
 use Rattle.std.specs.Arc.{arc_value}
-use Rattle.colbits.specs.Bit.{bits}
-use Rattle.colbits.specs.Slice.{slice}
+use Rattle.colbits.specs.Prelude.{bits, slice}
 use Rattle.colbits.proofs.BitLemmas.{get_or-bits, slice-bits, drop-map-range, map-range-same}
 use Rattle.types.specs.declared.int_type.IntType.{IntType}
-use Rattle.layout.specs.Item.{Item, null, int}
+use Rattle.layout.specs.Prelude.{Buffers, Item, Reading, Seen, buffer_at, bytes_at, bytes_for, checked_texts, child_items, column, inner_of, int, is_valid, is_valid_in, is_validity_short, null, nulls_in, part, read_parts, reading, valid_at, valid_in, validity_of, value_at}
 use Rattle.types.specs.Kind as kind
-use Rattle.types.specs.Kind.{Kind, bytes_of}
-use Rattle.layout.specs.Layout.{Buffers, buffer_at, bytes_at, is_valid, is_valid_in, validity_of, column, value_at}
-use Rattle.types.specs.Number.{number_at}
-use Rattle.layout.specs.Seen.{Seen, part, valid_in, valid_at, nulls_in}
-use Rattle.layout.specs.Fault.{is_validity_short, bytes_for}
-use Rattle.layout.specs.Reading.{Reading, read_parts, reading, inner_of, child_items}
-use Rattle.layout.specs.Checked.{checked_texts}
-use Rattle.arrays.specs.ViewType.{view_kind}
-use Rattle.arrays.specs.View.{read_view, show_view}
+use Rattle.types.specs.Prelude.{Kind, bytes_of, number_at}
+use Rattle.arrays.specs.Prelude.{HasNumbers, is_recodable, is_text, item_of, items_where, read_view, show_view, valid_values, view_kind}
 use Rattle.arrays.specs.declared.view.View.TheInside.{Inside}
-use Rattle.arrays.specs.Slot.{is_recodable, is_text, item_of}
-use Rattle.arrays.specs.Values.{HasNumbers, items_where, valid_values}
 use Rattle.layout.proofs.FirstFaultLemmas.{IsWhole, own_fault-none}
 use Rattle.layout.proofs.LawfulLemmas.{first-parts}
 use Rattle.layout.proofs.RangeLists.{map-range-below}

@@ -1,11 +1,8 @@
 -- Truth values that may not be known.
 use Rattle.std.proofs.Common.{◌≡◌, ◌∙◌, ℕ, ◌<◌, List, Bool, true, false, not, ◌&&◌, cond, Option, Some, None, is_some, get_or, refl}
 use Rattle.arrays.proofs.SlotLemmas.{items-slot}
-use Rattle.layout.specs.Item.{null, boolean}
-use Rattle.layout.specs.Seen.{valid_in}
-use Rattle.arrays.specs.Slot.{item_of_bool}
-use Rattle.arrays.specs.Truth.{knows_false, knows_true}
-use Rattle.arrays.specs.Values.{bool_in, bool_items}
+use Rattle.layout.specs.Prelude.{boolean, null, valid_in}
+use Rattle.arrays.specs.Prelude.{bool_in, bool_items, item_of_bool, knows_false, knows_true}
 
 -- a slot is true where it is valid and its bit is 1, and false where it is valid and its bit is 0
 pub true_slot : (bits : List Bool) (validity : Option (List Bool)) (i : ℕ) → (valid_in validity i && get_or bits i false) ≡ knows_true (bool_in bits validity i)

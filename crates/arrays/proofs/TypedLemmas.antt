@@ -4,16 +4,11 @@ use Rattle.std.proofs.lemmas.List.Elements.{All-drop, All-map, All-take}
 use Rattle.std.proofs.lemmas.List.FromFn.{get_or-range_with_len, length-range_with_len}
 use Rattle.std.specs.List.{range_with_len}
 use Rattle.std.specs.Prelude.{slice_index_or}
-use Rattle.arrays.specs.Dictionary.{looked_up}
+use Rattle.arrays.specs.Prelude.{AreItemsOf, HasLists, IsItemOf, looked_up, valid_values}
 use Rattle.types.specs.Kind as kind
 use Rattle.types.specs.declared.offset_width.OffsetWidth.{OffsetWidth}
-use Rattle.types.specs.Kind.{Kind, item_kind}
-use Rattle.layout.specs.Item.{Item, null, int, boolean, text, list, list_of}
-use Rattle.types.specs.Number.{natural}
-use Rattle.layout.specs.Offsets.{of_slot}
-use Rattle.layout.specs.Seen.{Seen, valid_at}
-use Rattle.arrays.specs.Typed.{AreItemsOf, IsItemOf}
-use Rattle.arrays.specs.Values.{HasLists, valid_values}
+use Rattle.types.specs.Prelude.{Kind, item_kind, natural}
+use Rattle.layout.specs.Prelude.{Item, Seen, boolean, int, list, list_of, null, of_slot, text, valid_at}
 
 -- ---- slots
 

@@ -5,12 +5,8 @@ use Rattle.std.proofs.lemmas.List.FromFn.{length-map-range_with_len, get_or-map-
 use Rattle.std.proofs.lemmas.List.Folds.{list_any_at, list_any_none}
 use Rattle.colbits.specs.Bit.{bit, bits}
 use Rattle.colbits.proofs.BitLemmas.{get_or-bits}
-use Rattle.layout.specs.Layout.{is_valid_in}
-use Rattle.layout.specs.Fault.{is_validity_short, bytes_for}
-use Rattle.layout.specs.Seen.{valid_in}
-use Rattle.layout.specs.Item.{Item, null, is_null}
-use Rattle.arrays.specs.Packed.{IsBufferOf}
-use Rattle.arrays.specs.Shown.{kept}
+use Rattle.layout.specs.Prelude.{Item, bytes_for, is_null, is_valid_in, is_validity_short, null, valid_in}
+use Rattle.arrays.specs.Prelude.{IsBufferOf, kept}
 
 -- ---- bits with a 0, or none
 

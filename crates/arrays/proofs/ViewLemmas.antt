@@ -1,10 +1,8 @@
 -- What a view shows of its array.
 use Rattle.std.proofs.Common.{◌≡◌, ◌+◌, ◌≤◌, map, length, None, option_map, arith}
 use Rattle.std.specs.Arc.{arc_value}
-use Rattle.layout.specs.Reading.{reading}
-use Rattle.layout.specs.Checked.{checked_texts}
-use Rattle.arrays.specs.View.{read_view, show_view}
-use Rattle.arrays.specs.ViewType.{view_kind}
+use Rattle.layout.specs.Prelude.{checked_texts, reading}
+use Rattle.arrays.specs.Prelude.{read_view, show_view, view_kind}
 use Rattle.arrays.specs.declared.view.View.TheInside.{Inside}
 use Rattle.layout.proofs.SeenLemmas.{length-slice, length-items, seen-kind}
 

@@ -2,8 +2,7 @@
 use Rattle.std.specs.Prelude.{Option, if◌then◌else◌, is_some, option_map}
 use Rattle.std.specs.Arc.{arc_value}
 use Rattle.types.specs.Kind.{Kind, dict, kind_of}
-use Rattle.layout.specs.Seen.{Seen}
-use Rattle.layout.specs.Reading.{Reading}
+use Rattle.layout.specs.Prelude.{Reading, Seen}
 use Rattle.arrays.specs.Parts.{read_alone}
 use Rattle.arrays.specs.declared.array.encoding.Encoding.{Encoding}
 use Rattle.arrays.specs.declared.array.Array.TheInside.{Inside}

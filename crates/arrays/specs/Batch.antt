@@ -1,17 +1,12 @@
 -- A record batch, and what it refuses.
 use Rattle.std.specs.Prelude.{ℕ, ◌==◌, List, map, length, not, nat_lt, if◌then◌else◌, Option, Some, option_map, position, slice_index_or, refl}
 use Rattle.std.specs.List.{range_with_len, zip}
-use Rattle.layout.specs.Item.{Item, null}
-use Rattle.types.specs.Kind.{same_kind}
-use Rattle.types.specs.Shape.{FieldShape, kind_of_field}
-use Rattle.layout.specs.Seen.{Seen}
+use Rattle.layout.specs.Prelude.{Item, Seen, null, seen_code}
+use Rattle.types.specs.Prelude.{FieldShape, field_code, kind_of_field, most_slots, same_kind}
 use Rattle.arrays.specs.declared.batch.BatchFault.{BatchFault}
 use Rattle.arrays.specs.declared.batch.BatchFault.TheVariants.{LengthsDiffer, TypeDiffers, ColumnCount}
 use Rattle.std.specs.Coded.{Coded, code_by, coded_ℕ, coded_list, coded×}
 use Rattle.std.specs.Option.{option_or}
-use Rattle.types.specs.FieldCode.{field_code}
-use Rattle.layout.specs.SeenCode.{seen_code}
-use Rattle.types.specs.Limits.{most_slots}
 
 -- Columns under their fields, of so many rows.
 pub record Batch : Type 0 where

@@ -2,13 +2,10 @@
 use Rattle.std.specs.Prelude.{◌≡◌, ℕ, ◌*◌, ◌≤◌, List, Bool, false, map, length, Option, slice_index_or, if◌then◌else◌}
 use Rattle.std.specs.List.{range_with_len}
 use Rattle.types.specs.declared.int_type.IntType.{IntType}
-use Rattle.types.specs.Kind.{bytes_of}
-use Rattle.types.specs.Number.{number_at}
-use Rattle.layout.specs.Item.{Item, null, int}
+use Rattle.types.specs.Prelude.{bytes_of, most_slots, number_at}
+use Rattle.layout.specs.Prelude.{Item, int, null, valid_in}
 use Rattle.arrays.specs.Column.{Column}
-use Rattle.layout.specs.Seen.{valid_in}
 use Rattle.arrays.specs.declared.builder.IntBuilder.TheInside.{Inside}
-use Rattle.types.specs.Limits.{most_slots}
 
 -- A number where the slot is valid.
 abbrev pub item_at : IntType → List ℕ → List Bool → ℕ → Item

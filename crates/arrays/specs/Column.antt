@@ -4,8 +4,7 @@ use Rattle.std.specs.Coded.{Coded, code_by, coded_ℕ, coded_list, coded_option,
 use Rattle.types.specs.FieldCode.{int_code, offsets_code}
 use Rattle.types.specs.declared.int_type.IntType.{IntType}
 use Rattle.types.specs.declared.offset_width.OffsetWidth.{OffsetWidth}
-use Rattle.layout.specs.SeenCode.{item_code}
-use Rattle.layout.specs.Item.{Item}
+use Rattle.layout.specs.Prelude.{Item, item_code}
 
 -- The numbers so far, null where there is none.
 pub record Column : Type 0 where

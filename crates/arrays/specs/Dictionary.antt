@@ -1,10 +1,8 @@
 -- Dictionary-encoded columns (Arrow columnar format, "Dictionary-encoded layout").
 use Rattle.std.specs.Prelude.{ℕ, ◌&&◌, pos, int_lt, List, [], map, Bool, true, false, not, slice_index_or}
-use Rattle.layout.specs.Item.{Item, null, int}
+use Rattle.layout.specs.Prelude.{Entries, Item, Seen, int, no_entries, null}
 use Rattle.types.specs.Kind as kind
-use Rattle.types.specs.Kind.{int32}
-use Rattle.types.specs.Number.{natural, is_negative}
-use Rattle.layout.specs.Seen.{Seen, Entries, no_entries}
+use Rattle.types.specs.Prelude.{int32, is_negative, natural}
 
 -- The entry that a code names, null where the code is null.
 abbrev pub looked_up : List Item → Item → Item

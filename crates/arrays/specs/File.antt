@@ -1,10 +1,8 @@
 -- A schema and batches of its types.
 use Rattle.std.specs.Prelude.{◌≡◌, ℕ, List, map, slice_get, Some, refl}
-use Rattle.types.specs.Kind.{Kind}
-use Rattle.types.specs.Shape.{FieldShape, kind_of_field}
+use Rattle.types.specs.Prelude.{FieldShape, Kind, field_code, kind_of_field}
 use Rattle.arrays.specs.Batch.{Batch, batch_code}
 use Rattle.std.specs.Coded.{Coded, code_by, coded_list, coded×}
-use Rattle.types.specs.FieldCode.{field_code}
 
 pub record File : Type 0 where
   pub fields : List FieldShape

@@ -4,16 +4,10 @@ use Rattle.std.specs.List.{range_with_len}
 use Rattle.std.specs.Str.{IsUtf8}
 use Rattle.colbits.specs.Bit.{bit, bits}
 use Rattle.types.specs.declared.int_type.IntType.{IntType}
-use Rattle.layout.specs.Item.{Item, null, int, boolean, text, list, list_of}
+use Rattle.layout.specs.Prelude.{Item, Reading, Seen, boolean, checked, int, is_valid_in, list, list_of, no_entries, null, read_parts, slot_at, text}
 use Rattle.types.specs.declared.offset_width.OffsetWidth.{OffsetWidth}
 use Rattle.types.specs.Kind as kind
-use Rattle.types.specs.Kind.{Kind}
-use Rattle.layout.specs.Layout.{is_valid_in}
-use Rattle.types.specs.Number.{number_at}
-use Rattle.layout.specs.Offsets.{slot_at}
-use Rattle.layout.specs.Seen.{Seen, no_entries}
-use Rattle.layout.specs.Reading.{Reading, read_parts}
-use Rattle.layout.specs.Checked.{checked}
+use Rattle.types.specs.Prelude.{Kind, number_at}
 
 -- A column of n slots: slot j holds value j where its bit of the validity is 1 or there is no validity, else null.
 abbrev pub show_slots : Kind → ℕ → Option (List ℕ) → (ℕ → Item) → Seen

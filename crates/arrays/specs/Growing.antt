@@ -4,14 +4,10 @@ use Rattle.std.specs.List.{range_with_len, All}
 use Rattle.std.specs.Str.{IsUtf8}
 use Rattle.colbits.specs.Bit.{bits}
 use Rattle.types.specs.declared.offset_width.OffsetWidth.{OffsetWidth}
-use Rattle.types.specs.OffsetSize.{most_of, size_of}
-use Rattle.layout.specs.Fault.{is_validity_short}
-use Rattle.layout.specs.Item.{Item, null, boolean, text}
-use Rattle.layout.specs.Layout.{is_valid_in}
+use Rattle.types.specs.Prelude.{most_of, most_slots, size_of}
+use Rattle.layout.specs.Prelude.{AreOffsetBytes, Item, boolean, is_valid_in, is_validity_short, length_at, length_of, null, start_at, text}
 use Rattle.arrays.specs.Lengths.{total}
-use Rattle.layout.specs.Offsets.{AreOffsetBytes, length_at, length_of, start_at}
 use Rattle.arrays.specs.Shown.{kept}
-use Rattle.types.specs.Limits.{most_slots}
 
 -- A truth value for each valid slot, else null.
 unfoldable pub bools_where : List Bool → List Bool → List Item

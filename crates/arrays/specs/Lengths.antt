@@ -1,13 +1,10 @@
 -- How much the items of a column hold together, and columns cut by such lengths.
 use Rattle.std.specs.Prelude.{◌≡◌, ◌⊎◌, ◌||◌, ℕ, List, [], ◌∷◌, length, take, drop, sum_by, flat_map, Option, Some, None, Bool, true, false, nat_lt, unwrap_or}
-use Rattle.layout.specs.Item.{Item, null, text, list, items_of, list_of}
-use Rattle.layout.specs.Seen.{Seen}
+use Rattle.layout.specs.Prelude.{Item, Seen, items_of, list, list_of, null, text}
 use Rattle.arrays.specs.declared.builder.fault.BuildFault.{BuildFault}
 use Rattle.arrays.specs.declared.builder.fault.BuildFault.TheVariants.{NoMemory, OffsetsFull}
-use Rattle.types.specs.OffsetSize.{is_full}
+use Rattle.types.specs.Prelude.{Kind, is_full, most_slots}
 use Rattle.types.specs.Kind as kind
-use Rattle.types.specs.Kind.{Kind}
-use Rattle.types.specs.Limits.{most_slots}
 
 -- How many bytes a text has.
 abbrev pub text_length : Item → ℕ

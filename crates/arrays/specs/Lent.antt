@@ -1,8 +1,7 @@
 -- The parts of an array that are lent.
 use Rattle.std.specs.Prelude.{option_map}
 use Rattle.std.specs.Arc.{arc_value}
-use Rattle.layout.specs.Checked.{read_checked}
-use Rattle.layout.specs.Reading.{Reading}
+use Rattle.layout.specs.Prelude.{Reading, read_checked}
 use Rattle.types.specs.Kind.{Kind}
 use Rattle.arrays.specs.declared.lent.LentParts.{LentParts}
 

@@ -2,8 +2,7 @@
 use Rattle.std.specs.Prelude.{ℕ, [], replicate}
 use Rattle.arrays.specs.Dictionary.{encoded}
 use Rattle.arrays.specs.Shown.{shown}
-use Rattle.layout.specs.Item.{null}
-use Rattle.layout.specs.Seen.{Seen}
+use Rattle.layout.specs.Prelude.{Seen, null}
 use Rattle.types.specs.Kind.{Kind, dict, int, int32, utf8}
 
 -- What an array of n nulls shows: one with a dictionary has no entry there.

@@ -1,9 +1,7 @@
 -- The parts that an array and its copies share.
 use Rattle.std.specs.Prelude.{Option}
 use Rattle.types.specs.Kind.{Kind}
-use Rattle.layout.specs.Seen.{Seen}
-use Rattle.layout.specs.Reading.{Reading}
-use Rattle.layout.specs.Checked.{read_checked}
+use Rattle.layout.specs.Prelude.{Reading, Seen, read_checked}
 use Rattle.arrays.specs.declared.array.parts.Parts.{Parts}
 
 -- The parts as an array of the kind, with the texts of a dictionary or without.

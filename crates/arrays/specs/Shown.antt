@@ -1,9 +1,8 @@
 -- The array of some items: it has a validity only where an item is null.
 use Rattle.std.specs.Prelude.{List, [], map, Bool, not, Option, Some, None, if◌then◌else◌}
 use Rattle.std.specs.List.{list_any}
-use Rattle.layout.specs.Item.{Item, is_null}
+use Rattle.layout.specs.Prelude.{Item, Seen, is_null, no_entries}
 use Rattle.types.specs.Kind.{Kind}
-use Rattle.layout.specs.Seen.{Seen, no_entries}
 
 -- Bits that are not all 1, else none. (Arrow columnar format, "Validity bitmaps": arrays without nulls may omit theirs.)
 abbrev pub kept : List Bool → Option (List Bool)

@@ -3,8 +3,7 @@ use Rattle.std.specs.Prelude.{ℕ, ℤ, List, Bool, true, false, not, Option, So
 use Rattle.types.specs.declared.offset_width.OffsetWidth.TheVariants.{Narrow}
 use Rattle.types.specs.Kind.{Kind, int, texts, lists, dict}
 use Rattle.layout.specs.Item as item
-use Rattle.layout.specs.Item.{Item, null, is_null, list_of}
-use Rattle.layout.specs.Seen.{Seen}
+use Rattle.layout.specs.Prelude.{Item, Seen, is_null, list_of, null}
 
 -- The item at a place of a column.
 abbrev pub item_at : List Item → ℕ → Item

@@ -2,8 +2,7 @@
 use Rattle.std.specs.Prelude.{IsUtf8, ⊤}
 use Rattle.layout.specs.Item.{Item, Items, null, int, boolean, text, list, none, more}
 use Rattle.types.specs.Kind as kind
-use Rattle.types.specs.Kind.{Kind}
-use Rattle.types.specs.Number.{IsOfType}
+use Rattle.types.specs.Prelude.{IsOfType, Kind}
 
 -- The item is null or of the kind: a number in the type's range, a truth value, a text in UTF-8, or a list of such items.
 abbrev mutual

@@ -3,14 +3,11 @@ use Rattle.std.specs.Prelude.{◌≡◌, ℕ, ◌+◌, ◌*◌, ◌<◌, ◌≤�
 use Rattle.std.specs.List.{range_with_len}
 use Rattle.std.specs.Str.{IsUtf8}
 use Rattle.types.specs.declared.int_type.IntType.{IntType}
-use Rattle.types.specs.Kind.{bytes_of, item_kind}
-use Rattle.types.specs.Number.{number_at}
-use Rattle.layout.specs.Item.{Item, null, int, boolean, text, list, list_of}
-use Rattle.layout.specs.Seen.{Seen, valid_at, valid_in}
+use Rattle.types.specs.Prelude.{bytes_of, item_kind, number_at}
+use Rattle.layout.specs.Prelude.{AreOffsets, Item, Seen, boolean, int, length_of, list, list_of, null, of_slot, start_of, text, valid_at, valid_in}
 use Rattle.colbits.specs.Slice.{slice}
 use Rattle.arrays.specs.declared.view.lists.Lists.{Lists}
 use Rattle.arrays.specs.declared.view.texts.Texts.{Texts}
-use Rattle.layout.specs.Offsets.{AreOffsets, length_of, of_slot, start_of}
 
 -- The items of n slots: these values where they are valid, else null.
 abbrev pub items_where : (ℕ → Item) → Option (List Bool) → ℕ → List Item

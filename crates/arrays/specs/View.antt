@@ -3,9 +3,7 @@ use Rattle.std.specs.Prelude.{◌≡◌, ◌+◌, ◌≤◌, None, option_map}
 use Rattle.std.specs.Arc.{arc_value}
 use Rattle.types.specs.Limits.{most_slots}
 use Rattle.arrays.specs.ViewType.{view_kind}
-use Rattle.layout.specs.Seen.{Seen, part}
-use Rattle.layout.specs.Reading.{Reading}
-use Rattle.layout.specs.Checked.{read_checked}
+use Rattle.layout.specs.Prelude.{Reading, Seen, part, read_checked}
 use Rattle.arrays.specs.declared.view.View.TheInside.{Inside}
 
 -- The whole array that the view is of.

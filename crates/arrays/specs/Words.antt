@@ -2,8 +2,7 @@
 use Rattle.std.specs.Prelude.{[], None}
 use Rattle.std.specs.Arc.{arc_value}
 use Rattle.types.specs.Kind.{utf8}
-use Rattle.layout.specs.Reading.{Reading, read_parts}
-use Rattle.layout.specs.Seen.{Seen}
+use Rattle.layout.specs.Prelude.{Reading, Seen, read_parts}
 use Rattle.arrays.specs.declared.array.parts.Parts.{Parts}
 use Rattle.arrays.specs.declared.words.Words.TheInside.{Inside}
 

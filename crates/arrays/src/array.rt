@@ -42,8 +42,7 @@ pub struct Array {
 
 impl Model for Array {
     ghost use Rattle.std.specs.Prelude.{◌≡◌, None};
-    ghost use Rattle.layout.specs.Seen.{Seen};
-    ghost use Rattle.layout.specs.SeenCode.{seen_code};
+    ghost use Rattle.layout.specs.Prelude.{Seen, seen_code};
 
     ghost Value = { Seen };
 

@@ -1,10 +1,8 @@
 ghost use Rattle.std.specs.Prelude.{◌≡◌, ◌+◌, ◌*◌, ◌<◌, ◌≤◌, [], ◌∷◌, ◌++◌, length, take, IfOk, OnOk, OnErr, if◌then◌else◌};
 ghost use Rattle.std.specs.Option.{ForSome};
-ghost use Rattle.types.specs.Number.{IsOfType};
+ghost use Rattle.types.specs.Prelude.{IsOfType, bytes_of, most_slots};
 ghost use Rattle.types.specs.Kind as kind;
-ghost use Rattle.types.specs.Kind.{bytes_of};
 ghost use Rattle.arrays.specs.Shown.{shown};
-ghost use Rattle.types.specs.Limits.{most_slots};
 
 pub mod bools;
 pub mod fault;

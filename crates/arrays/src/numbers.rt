@@ -1,8 +1,7 @@
 //! Numbers as they lie in bytes, of a type that is known only when the program runs.
 
 ghost use Rattle.std.specs.Prelude.{◌≡◌, ◌+◌, ◌*◌, ◌≤◌, ◌++◌, length, OnOk, OnErr};
-ghost use Rattle.types.specs.Kind.{bytes_of};
-ghost use Rattle.types.specs.Number.{number_at, IsOfType, bytes_of_number};
+ghost use Rattle.types.specs.Prelude.{IsOfType, bytes_of, bytes_of_number, number_at};
 
 use crate::with_integer;
 use colbits::NoMemory;

@@ -1,12 +1,10 @@
 ghost use Rattle.std.specs.Prelude.{◌≡◌, ◌+◌, ◌<◌, ◌≤◌, None, false, length, option_map};
 ghost use Rattle.std.specs.Arc.{arc_value};
-ghost use Rattle.layout.specs.Checked.{read_checked};
+ghost use Rattle.layout.specs.Prelude.{null_count_of, part, read_checked, valid_at};
 ghost use Rattle.types.specs.Kind as kind;
-ghost use Rattle.types.specs.Kind.{kind_of, same_kind};
-ghost use Rattle.layout.specs.Seen.{null_count_of, part, valid_at};
+ghost use Rattle.types.specs.Prelude.{kind_of, most_slots, same_kind};
 ghost use Rattle.arrays.specs.Slot.{holds_at};
 ghost use Rattle.arrays.specs.ViewType.{view_kind};
-ghost use Rattle.types.specs.Limits.{most_slots};
 
 mod bools;
 mod dictionary;
@@ -86,8 +84,7 @@ pub struct View<'a> {
 }
 
 impl<'a> Model for View<'a> {
-    ghost use Rattle.layout.specs.Seen.{Seen};
-    ghost use Rattle.layout.specs.SeenCode.{seen_code};
+    ghost use Rattle.layout.specs.Prelude.{Seen, seen_code};
 
     ghost Value = { Seen };
 

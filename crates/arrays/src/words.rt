@@ -26,8 +26,7 @@ pub struct Words {
 
 impl Model for Words {
     ghost use Rattle.std.specs.Prelude.{◌≡◌, None};
-    ghost use Rattle.layout.specs.Seen.{Seen};
-    ghost use Rattle.layout.specs.SeenCode.{seen_code};
+    ghost use Rattle.layout.specs.Prelude.{Seen, seen_code};
 
     ghost Value = { Seen };
 

@@ -3,10 +3,8 @@ use Rattle.std.proofs.Common.{Result, Ok, Err, IfOk, IfErr, ◌≡◌, ◌∙◌
 use Rattle.std.proofs.lemmas.List.{length-map}
 use Rattle.std.proofs.lemmas.Result.{IfErr-weaker}
 use Rattle.std.proofs.lemmas.Slice.Zip.{AllZip-long}
-use Rattle.arrays.specs.File.{File}
-use Rattle.arrays.specs.Shape.{FieldShape}
-use Rattle.arrow_json.specs.JsonFile.{file_of}
-use Rattle.arrow_json.specs.QueryDocument.{ReadsQueryText}
+use Rattle.arrays.specs.Prelude.{FieldShape, File}
+use Rattle.arrow_json.specs.Prelude.{ReadsQueryText, file_of}
 use Rattle.job.specs.Jobs.{text_of_query}
 use Rattle.job.specs.declared.jobs.Command.{Command}
 use Rattle.job.specs.declared.jobs.Command.TheVariants as command
@@ -14,26 +12,13 @@ use Rattle.job.specs.declared.jobs.Command.TheVariants.{Query}
 use Rattle.job.specs.declared.jobs.Job.{Job}
 use Rattle.job.specs.declared.jobs.Output.{Output}
 use Rattle.job.specs.declared.jobs.QuerySource.{QuerySource}
-use Rattle.table.specs.Contents.{Contents}
-use Rattle.table.specs.Resolved.{named}
-use Rattle.table.specs.QueryFault.{QueryFault}
-use Rattle.table.specs.QueryText.{QueryText}
-use Rattle.table.specs.History.{History}
-use Rattle.table.specs.Widened.{add_fault}
+use Rattle.table.specs.Prelude.{Contents, History, QueryFault, QueryText, add_fault, named}
 use Rattle.table.specs.declared.add_fault.AddFault.{AddFault}
 use Rattle.table.specs.declared.refusal.Refusal.{Refusal}
-use Rattle.arrowtab.specs.Column.{IsColumn, RefusesColumn, column_text, fields_with, history_with}
-use Rattle.arrowtab.specs.Loaded.{IsLoaded, IsStopped}
-use Rattle.reports.specs.OrMemory.{OrMemory}
-use Rattle.arrowtab.specs.Output.{Prints, PrintsNothing}
-use Rattle.arrowtab.specs.Run.{Answers, AreRead, Explains, Inputs, OfJob, Refuses, RefusesQuery}
-use Rattle.arrowtab.specs.Wanted.{IsUnprinted, IsUnread, IsWanted, PrintsWanted}
-use Rattle.arrowtab.specs.Worked.{Holds, StopsLoading, listed}
+use Rattle.arrowtab.specs.Prelude.{Answers, AreRead, Explains, Holds, Inputs, IsColumn, IsLoaded, IsStopped, IsUnprinted, IsUnread, IsWanted, OfJob, Prints, PrintsNothing, PrintsWanted, Refuses, RefusesColumn, RefusesQuery, StopsLoading, column_text, fields_with, history_with, listed}
+use Rattle.reports.specs.Prelude.{FileBatch, IsUnreadQuery, OrMemory, RefusesGroups, batch_of, batches_with_fields, table_fields}
 use Rattle.arrowtab.specs.declared.wanted.Wanted.{Wanted}
 use Rattle.arrowtab.specs.declared.wanted.Wanted.TheVariants.{Groups}
-use Rattle.reports.specs.FileBatches.{FileBatch, batch_of, batches_with_fields, table_fields}
-use Rattle.reports.specs.Queried.{RefusesGroups}
-use Rattle.reports.specs.QueryFaults.{IsUnreadQuery}
 use Rattle.reports.proofs.FileLemmas.{AreKept, data_of, file-listed}
 use Rattle.loads.specs.Loaded.{fields_for}
 use Rattle.reports.specs.declared.run_fault.RunFault.{RunFault}

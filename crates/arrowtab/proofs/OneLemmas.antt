@@ -2,8 +2,7 @@
 use Rattle.std.proofs.Common.{◌≡◌, ◌∙◌, ℕ, ◌<◌, List, [], ◌∷◌, Bool, cond, map, ap, sym, refl, arith}
 use Rattle.std.proofs.lemmas.Simd.{map-map}
 use Rattle.std.specs.List.{AllByRecursion, flat_map}
-use Rattle.arrays.specs.Batch.{Table}
-use Rattle.arrays.specs.Shape.{FieldShape}
+use Rattle.arrays.specs.Prelude.{FieldShape, Table}
 use Rattle.table.specs.History.{History, of}
 use Rattle.arrowtab.specs.Loaded.{IsLoaded, added_by}
 use Rattle.reports.specs.FileBatches.{FileBatch, batch_tables}

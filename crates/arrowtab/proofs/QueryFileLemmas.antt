@@ -8,8 +8,7 @@ use Rattle.job.specs.Jobs.{file_of_query, with_query_text}
 use Rattle.job.specs.declared.jobs.Job.{Job}
 use Rattle.reports.specs.declared.run_fault.FileFault.TheVariants.{CannotRead}
 use Rattle.reports.specs.declared.run_fault.RunFault.TheVariants.{OfFile}
-use Rattle.arrowtab.specs.QueryFile.{HasRead, UnreadQuery, error_failed, no_memory, source_failed}
-use Rattle.arrowtab.specs.TookFault.{TookFault, built, not_built}
+use Rattle.arrowtab.specs.Prelude.{HasRead, TookFault, UnreadQuery, built, error_failed, no_memory, not_built, source_failed}
 
 -- a job has read the text of its query
 pub has_read : (job read : Job) (input : Option (List ℕ)) (name : List ℕ) (text : Vec ℕ Global) → file_of_query job.command ≡ Some name → IfSome input (λ bytes. text.items ≡ bytes)

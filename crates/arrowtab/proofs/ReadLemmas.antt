@@ -8,17 +8,14 @@ use Rattle.std.proofs.lemmas.Slice.Zip.{AllZip-long, all_zipped_more}
 use Rattle.std.specs.Prelude.{◌⊎◌, All, Err, is_some}
 use Rattle.std.specs.List.{AllByRecursion, AllZip}
 use Rattle.arrays.specs.File.{File}
-use Rattle.arrow_json.specs.JsonFile.{AreUnder, BytesFault, Reads, file_of}
+use Rattle.arrow_json.specs.Prelude.{AreUnder, BytesFault, FileData, JsonFault, Reads, file_of}
 use Rattle.ends.specs.Source.{CountsReads}
 use Rattle.ends.specs.declared.source.SourceFault.{SourceFault}
 use Rattle.ends.specs.declared.source.SourceFault.TheVariants.{ReadFailed}
 use Rattle.arrow_json.proofs.Found.{Some_inj}
-use Rattle.arrow_json.specs.JsonTable.{FileData}
-use Rattle.arrow_json.specs.JsonFault.{JsonFault}
 use Rattle.reports.proofs.ParseLemmas.{texts_under}
 use Rattle.arrowtab.specs.Explained.{IsFileUnread, not_read, source_failed}
-use Rattle.reports.specs.OrMemory.{OrMemory}
-use Rattle.reports.specs.Parsed.{AddsFiles, IsFirstUnread, IsTextOf, StopsParsing}
+use Rattle.reports.specs.Prelude.{AddsFiles, IsFirstUnread, IsTextOf, OrMemory, StopsParsing}
 use Rattle.arrowtab.specs.Run.{AreRead, Inputs}
 use Rattle.reports.specs.declared.run_fault.FileFault.TheVariants.{CannotRead}
 use Rattle.reports.specs.declared.run_fault.RunFault.{RunFault}

@@ -7,8 +7,7 @@ use Rattle.job.specs.Jobs.{names_of}
 use Rattle.job.specs.declared.jobs.Job.{Job}
 use Rattle.reports.specs.FileBatches.{batches_with_fields}
 use Rattle.ends.specs.Line.{line_taken, memory_line, sink_failed}
-use Rattle.arrowtab.specs.Run.{Excuse, Explains, Inputs}
-use Rattle.arrowtab.specs.TookFault.{IsOfFile, TookFault, built, not_built}
+use Rattle.arrowtab.specs.Prelude.{Excuse, Explains, Inputs, IsOfFile, TookFault, built, not_built}
 use Rattle.reports.specs.declared.run_fault.FileFault.TheVariants.{CannotRead, Json, Refused}
 use Rattle.reports.specs.declared.run_fault.RunFault.{RunFault}
 use Rattle.reports.specs.declared.run_fault.RunFault.TheVariants.{NoMemory, OfFile}

@@ -11,23 +11,15 @@ use Rattle.std.proofs.lemmas.Bool.Decides.{nat_tests}
 use Rattle.std.proofs.lemmas.Cmp.{int_cmp_total, nat_list_cmp_total}
 use Rattle.std.proofs.lemmas.Int.{ints}
 use Rattle.std.proofs.lemmas.List.{length-map, map-append}
-use Rattle.arrays.specs.Batch.{Row, Table, column}
-use Rattle.arrays.specs.Item.{Item, boolean, int, null, text}
+use Rattle.arrays.specs.Prelude.{FieldShape, Item, Kind, Row, Table, boolean, column, int, kind_of_field, name_of, null, text}
 use Rattle.arrays.specs.Kind as kind
-use Rattle.arrays.specs.Kind.{Kind}
-use Rattle.arrays.specs.Shape.{FieldShape, kind_of_field, name_of}
 use Rattle.table.proofs.JoinedStats.{are_bytes, are_numbers, are_truths, bytes_of_text, cond-item, greatest-append, least-append, nulls-append, reduce-items, sum-append, truth_of}
 use Rattle.table.proofs.TallyLemmas.{no_greatest_of_lists, no_least_of_lists}
-use Rattle.table.specs.Joined.{better, both_sums}
-use Rattle.table.specs.Stats.{greater, greatest_of, is_bytes, is_number, is_truth, least_of, lesser, nulls_of, number_of, sum_of}
+use Rattle.table.specs.Prelude.{History, better, both_sums, greater, greatest_of, is_bytes, is_number, is_truth, least_of, lesser, nulls_of, number_of, of, rows, sum_of, widened}
 use Rattle.shared.proofs.BalanceLemmas.{rows_widened}
 use Rattle.table.proofs.WidenedLemmas.{length-widened, of-widened, rows-widened, table-column}
-use Rattle.table.specs.History.{History, of, rows}
-use Rattle.table.specs.Widened.{widened}
-use Rattle.arrowtab.specs.Column.{fields_with, history_with}
-use Rattle.arrowtab.specs.Loaded.{IsLoaded, added_by}
-use Rattle.reports.specs.FileBatches.{FileBatch}
-use Rattle.reports.specs.Shown.{column_line, column_lines, field_line, rows_line, stats_text, worker_line, worker_lines}
+use Rattle.arrowtab.specs.Prelude.{IsLoaded, added_by, fields_with, history_with}
+use Rattle.reports.specs.Prelude.{FileBatch, column_line, column_lines, field_line, rows_line, stats_text, worker_line, worker_lines}
 use Rattle.loads.proofs.PlanLemmas.{by_recursion}
 
 -- ---- of two values the first in an order, whichever is named first

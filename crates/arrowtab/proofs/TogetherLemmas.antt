@@ -7,30 +7,18 @@ use Rattle.std.proofs.lemmas.Option.{slice_get-get_or}
 use Rattle.std.specs.Prelude.{All, ◌==◌, ◌||◌, sum_by}
 use Rattle.std.specs.List.{AllByRecursion}
 use mathlib.Core.List.{IsPrefix}
-use Rattle.arrays.specs.Batch.{Batch, Table, rows_of}
-use Rattle.arrays.specs.File.{File}
-use Rattle.arrays.specs.Shape.{FieldShape}
-use Rattle.loads.specs.Loaded.{AllLoaded, AreRun, batches_of_files, before_stop, fields_for, IsStoppedAt as IsHalted, Loaded, pairs_of, StandsFor, Stop}
-use Rattle.loads.specs.Plan.{planned}
+use Rattle.arrays.specs.Prelude.{Batch, FieldShape, File, Table, rows_of}
+use Rattle.loads.specs.Loaded.{IsStoppedAt as IsHalted}
+use Rattle.loads.specs.Prelude.{AllLoaded, AreRun, IsLeastReported, Loaded, StandsAgainstLoading, StandsFor, Stop, batches_of_files, before_stop, fields_for, pairs_of, planned}
 use Rattle.loads.proofs.LoadLemmas.{HasLoaded, IsAlike, has_loaded}
-use Rattle.loads.specs.Report.{IsLeastReported, StandsAgainstLoading}
 use Rattle.loads.specs.declared.fault.LoadFault.TheVariants as load
-use Rattle.shared.specs.Balance.{IsOfWorkers}
-use Rattle.shared.specs.Hand.{AreNew, Hand, IsNew, IsWorkerOf, HasAllItsPairs, columns_of_hand}
-use Rattle.shared.specs.Known.{IsLegalKnown, Known, known_of}
-use Rattle.shared.specs.Left.{Left}
+use Rattle.shared.specs.Prelude.{AllThere, AreNew, Hand, HasAllItsPairs, InOrder, IsLegalKnown, IsNew, IsOfWorkers, IsWorkerOf, Known, Left, columns_of_hand, is_there, known_of}
 use Rattle.shared.proofs.KnownLemmas.{legal_wide, wide_again}
-use Rattle.shared.specs.Missing.{AllThere, is_there}
-use Rattle.shared.specs.Parts.{InOrder}
 use Rattle.table.proofs.FrontLemmas.{prefix_self, prefix_trans}
-use Rattle.table.specs.Cause.{IsLegal, IsTableOf, batch_cause, difference}
-use Rattle.table.specs.Contents.{Contents}
-use Rattle.table.specs.History.{History, of}
-use Rattle.table.specs.Widened.{widened}
+use Rattle.table.specs.Prelude.{Contents, History, IsLegal, IsTableOf, batch_cause, difference, of, widened}
 use Rattle.table.specs.declared.refusal.Refusal.{Refusal}
 use Rattle.table.specs.declared.refusal.Refusal.TheVariants as refusal
-use Rattle.arrowtab.specs.Loaded.{IsLoaded, IsStopped}
-use Rattle.arrowtab.specs.Worked.{Holds, listed}
+use Rattle.arrowtab.specs.Prelude.{Holds, IsLoaded, IsStopped, listed}
 use Rattle.reports.specs.declared.run_fault.RunFault.{RunFault}
 use Rattle.loads.proofs.PlanLemmas.{all_begun, by_recursion, each_planned, map_begun, order_begun, planned_front, same_test, whole_begun}
 use Rattle.arrowtab.proofs.WorkedLemmas.{Fits, loaded_of, stopped_of}

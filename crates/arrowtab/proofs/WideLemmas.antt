@@ -7,27 +7,15 @@ use Rattle.std.proofs.lemmas.List.Sums.{sum_by-append}
 use Rattle.std.specs.Prelude.{All, ◌==◌, sum_by}
 use Rattle.std.specs.List.{AllByRecursion, Any, enumerate_from, flat_map}
 use mathlib.Core.List.{IsPrefix}
-use Rattle.arrays.specs.Batch.{Batch, Row, Table, rows_of}
-use Rattle.arrays.specs.File.{File}
-use Rattle.arrays.specs.First.{first}
-use Rattle.arrays.specs.Shape.{FieldShape}
-use Rattle.loads.specs.Loaded.{AllLoaded, Loaded, batches_of_files, fields_for, pairs_of}
-use Rattle.loads.specs.Plan.{planned}
+use Rattle.arrays.specs.Prelude.{Batch, FieldShape, File, Row, Table, first, rows_of}
+use Rattle.loads.specs.Prelude.{AllLoaded, Loaded, batches_of_files, fields_for, pairs_of, planned}
 use Rattle.loads.proofs.LoadLemmas.{has_loaded}
-use Rattle.shared.specs.Balance.{IsOfWorkers}
-use Rattle.shared.specs.Hand.{AreNew, Hand, HasWidened, IsNew, HasAllItsPairs, columns_of_hand}
-use Rattle.shared.specs.Known.{IsLegalKnown, Known, known_of}
-use Rattle.shared.specs.Missing.{AllThere}
+use Rattle.shared.specs.Prelude.{AllThere, AreNew, Hand, HasAllItsPairs, HasWidened, IsLegalKnown, IsNew, IsOfWorkers, Known, columns_of_hand, known_of}
 use Rattle.table.proofs.AddLemmas.{fits-stored}
 use Rattle.table.proofs.FrontLemmas.{prefix_trans}
 use Rattle.table.proofs.WidenedLemmas.{legal-narrow, length-of_fields, row-front, widened-again}
-use Rattle.table.specs.Cause.{IsLegal, IsRowOf, IsTableOf, difference}
-use Rattle.table.specs.Contents.{Contents}
-use Rattle.table.specs.History.{History, of}
-use Rattle.table.specs.Stored.{stored_field}
-use Rattle.table.specs.Widened.{add_fault, widened, widened_row, widened_table}
-use Rattle.arrowtab.specs.Loaded.{IsLoaded}
-use Rattle.arrowtab.specs.Worked.{AreAsWide, Holds, IsWidenedFirst, listed}
+use Rattle.table.specs.Prelude.{Contents, History, IsLegal, IsRowOf, IsTableOf, add_fault, difference, of, stored_field, widened, widened_row, widened_table}
+use Rattle.arrowtab.specs.Prelude.{AreAsWide, Holds, IsLoaded, IsWidenedFirst, listed}
 use Rattle.reports.specs.declared.run_fault.RunFault.{RunFault}
 use Rattle.loads.proofs.PlanLemmas.{all_from, by_recursion, each_planned, same_test, whole_begun}
 use Rattle.arrowtab.proofs.ReadLemmas.{all_append}

@@ -6,19 +6,13 @@ use Rattle.std.proofs.lemmas.Simd.{map-map}
 use Rattle.std.specs.Prelude.{All}
 use Rattle.std.specs.List.{AllByRecursion}
 use mathlib.Core.List.{IsPrefix}
-use Rattle.arrays.specs.Batch.{Batch, Table, rows_of}
-use Rattle.arrays.specs.File.{File}
-use Rattle.arrays.specs.Shape.{FieldShape}
-use Rattle.loads.specs.Loaded.{batches_of_files, pairs_of}
-use Rattle.loads.specs.Plan.{planned}
+use Rattle.arrays.specs.Prelude.{Batch, FieldShape, File, Table, rows_of}
+use Rattle.loads.specs.Prelude.{batches_of_files, pairs_of, planned}
 use Rattle.shared.specs.Balance.{IsOfWorkers}
-use Rattle.table.specs.Cause.{IsLegal, batch_cause, difference}
-use Rattle.table.specs.History.{History, of}
+use Rattle.table.specs.Prelude.{History, IsLegal, batch_cause, difference, of}
 use Rattle.table.specs.declared.refusal.Refusal.{Refusal}
-use Rattle.arrowtab.specs.Loaded.{IsLoaded, IsStopped, added_by}
-use Rattle.reports.specs.FileBatches.{FileBatch, batch_tables}
-use Rattle.arrowtab.specs.Worked.{listed}
-use Rattle.reports.specs.FileBatches.{batch_of}
+use Rattle.arrowtab.specs.Prelude.{IsLoaded, IsStopped, added_by, listed}
+use Rattle.reports.specs.Prelude.{FileBatch, batch_of, batch_tables}
 use Rattle.loads.proofs.PlanLemmas.{all_from, map_begun, planned-map}
 
 -- ---- batches as they are seen

@@ -1,13 +1,9 @@
 -- A column that is added once the files are loaded.
 use Rattle.std.specs.Prelude.{◌≡◌, ◌+◌, ◌++◌, ℕ, List, [], ◌∷◌, length, Option, None, Some, IfSome, option_map, string_bytes, ⊤}
-use Rattle.arrays.specs.Shape.{FieldShape}
-use Rattle.arrow_json.specs.JsonField.{FieldTextFault, IsFieldText}
+use Rattle.arrays.specs.Prelude.{FieldShape}
+use Rattle.arrow_json.specs.Prelude.{FieldTextFault, IsFieldText, JsonFaultKind, Step}
 use Rattle.job.specs.declared.jobs.Job.{Job}
-use Rattle.arrow_json.specs.Step.{Step}
-use Rattle.arrow_json.specs.JsonFaultKind.{JsonFaultKind}
-use Rattle.table.specs.History.{History}
-use Rattle.table.specs.Stored.{stored_field}
-use Rattle.table.specs.Widened.{add_fault, widened}
+use Rattle.table.specs.Prelude.{History, add_fault, stored_field, widened}
 use Rattle.table.specs.declared.add_fault.AddFault.{AddFault}
 
 -- The text of a job's column, where it has one.

@@ -1,8 +1,7 @@
 -- Which file isn't read, and why.
 use Rattle.std.specs.Prelude.{◌≡◌, ◌<◌, ℕ, List, slice_get, take}
 use Rattle.arrowtab.specs.Run.{AreRead, FailedFile, FailedRead, Inputs}
-use Rattle.arrow_json.specs.JsonFault.{JsonFault}
-use Rattle.arrow_json.specs.JsonTable.{FileData}
+use Rattle.arrow_json.specs.Prelude.{FileData, JsonFault}
 use Rattle.reports.specs.declared.run_fault.FileFault.TheVariants.{CannotRead, Json}
 use Rattle.reports.specs.declared.run_fault.RunFault.{RunFault}
 use Rattle.reports.specs.declared.run_fault.RunFault.TheVariants.{OfFile}

@@ -1,12 +1,10 @@
 -- Which histories come of the files' batches.
 use Rattle.std.specs.Prelude.{◌≡◌, ◌≢◌, ◌<◌, ◌++◌, ◌%◌, ℕ, List, map, slice_get, take, None, Some, All}
 use mathlib.Core.List.{IsPrefix}
-use Rattle.arrays.specs.Shape.{FieldShape}
-use Rattle.arrays.specs.Batch.{Table}
-use Rattle.table.specs.History.{History, of}
+use Rattle.arrays.specs.Prelude.{FieldShape, Table}
+use Rattle.table.specs.Prelude.{History, IsLegal, difference, handed_cause, of}
 use Rattle.loads.specs.Plan.{planned}
 use Rattle.reports.specs.FileBatches.{FileBatch, batch_tables}
-use Rattle.table.specs.Cause.{IsLegal, difference, handed_cause}
 use Rattle.table.specs.declared.refusal.Refusal.{Refusal}
 
 -- The tables that a worker added, in order.

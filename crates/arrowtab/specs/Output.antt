@@ -1,23 +1,15 @@
 -- The output of each command.
 use Rattle.std.specs.Prelude.{◌≡◌, ℕ, List, []}
-use Rattle.table.specs.Groups.{GroupShape}
-use Rattle.arrays.specs.Shape.{FieldShape}
+use Rattle.table.specs.Prelude.{GroupShape, History, QueryFault, QueryShape}
+use Rattle.arrays.specs.Prelude.{FieldShape}
 use Rattle.job.specs.Jobs.{text_of_query}
 use Rattle.job.specs.declared.jobs.Command.{Command}
 use Rattle.job.specs.declared.jobs.Command.TheVariants.{Stats, Schema, Validate, Head, Export, Query}
 use Rattle.job.specs.declared.jobs.Output.{Output}
 use Rattle.job.specs.declared.jobs.Output.TheVariants.{Lines, Json, Csv}
 use Rattle.job.specs.declared.jobs.QuerySource.{QuerySource}
-use Rattle.table.specs.QueryShape.{QueryShape}
-use Rattle.table.specs.QueryFault.{QueryFault}
-use Rattle.arrow_json.specs.QueryDocument.{ReadsQueryText}
-use Rattle.table.specs.History.{History}
-use Rattle.reports.specs.Exported.{exported}
-use Rattle.reports.specs.Fields.{schema_lines}
-use Rattle.reports.specs.GroupLines.{group_arrays, group_lines, group_records}
-use Rattle.reports.specs.Queried.{RefusesGroups, ShowsGroups}
-use Rattle.reports.specs.Rows.{first_lines}
-use Rattle.reports.specs.Shown.{stats_text}
+use Rattle.arrow_json.specs.Prelude.{ReadsQueryText}
+use Rattle.reports.specs.Prelude.{RefusesGroups, ShowsGroups, exported, first_lines, group_arrays, group_lines, group_records, schema_lines, stats_text}
 
 -- What is shown of a query's groups, by the form of the output.
 abbrev pub shown_as : Output → QueryShape (List ℕ) → List GroupShape → List ℕ

@@ -2,18 +2,16 @@
 use Rattle.std.specs.Prelude.{◌≡◌, ◌⊎◌, ◌<◌, ℕ, List, map, Option, Some, IfSome, slice_get, ⊤}
 use Rattle.std.specs.List.{AllZip}
 use Rattle.std.specs.Io.KnownBytes.{Appends, Keeps}
-use Rattle.ends.specs.Line.{output_line}
-use Rattle.ends.specs.Sink.{AppendsFront}
-use Rattle.arrays.specs.Shape.{FieldShape}
-use Rattle.table.specs.History.{History}
+use Rattle.ends.specs.Prelude.{AppendsFront, output_line}
+use Rattle.arrays.specs.Prelude.{FieldShape}
+use Rattle.table.specs.Prelude.{History, QueryFault}
 use Rattle.job.specs.Jobs.{names_of, text_of_query}
 use Rattle.job.specs.declared.jobs.Command.{Command}
 use Rattle.job.specs.declared.jobs.Command.TheVariants.{Query}
 use Rattle.job.specs.declared.jobs.Job.{Job}
 use Rattle.job.specs.declared.jobs.Output.{Output}
 use Rattle.job.specs.declared.jobs.QuerySource.{QuerySource}
-use Rattle.table.specs.QueryFault.{QueryFault}
-use Rattle.arrow_json.specs.QueryDocumentFault.{QueryBytesFault}
+use Rattle.arrow_json.specs.Prelude.{BytesFault, FileData, JsonFaultKind, QueryBytesFault, Reads, Step}
 use Rattle.arrowtab.specs.Column.{FailedColumn, IsAllowed, IsColumn, RefusesColumn, column_text, fields_with, history_with}
 use Rattle.arrowtab.specs.Output.{Prints, PrintsNothing}
 use Rattle.arrowtab.specs.Loaded.{IsLoaded, IsStopped}
@@ -26,11 +24,7 @@ use Rattle.reports.specs.declared.run_fault.FileFault.TheVariants.{CannotRead, J
 use Rattle.reports.specs.declared.run_fault.RunFault.{RunFault}
 use Rattle.reports.specs.declared.run_fault.RunFault.TheVariants.{NoMemory, OfColumn, OfFile, QueryUnread, QueryRefused}
 use Rattle.reports.specs.FileBatches.{batches_with_fields, table_fields}
-use Rattle.arrow_json.specs.JsonFile.{Reads, BytesFault}
-use Rattle.arrow_json.specs.JsonTable.{FileData}
 use Rattle.table.specs.declared.refusal.Refusal.{Refusal}
-use Rattle.arrow_json.specs.Step.{Step}
-use Rattle.arrow_json.specs.JsonFaultKind.{JsonFaultKind}
 
 -- What each source still has to give, where it tells it.
 abbrev pub Inputs : Type 0

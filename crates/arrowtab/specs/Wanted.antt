@@ -1,25 +1,17 @@
 -- What a job wants to be printed, its query being read.
 use Rattle.std.specs.Prelude.{◌≡◌, ℕ, List, []}
-use Rattle.arrays.specs.Shape.{FieldShape}
-use Rattle.arrow_json.specs.JsonFault.{JsonFault}
+use Rattle.arrays.specs.Prelude.{FieldShape}
+use Rattle.arrow_json.specs.Prelude.{JsonFault, ReadsQueryText}
 use Rattle.job.specs.Jobs.{text_of_query}
 use Rattle.job.specs.declared.jobs.Command.{Command}
 use Rattle.job.specs.declared.jobs.Command.TheVariants as command
 use Rattle.job.specs.declared.jobs.Job.{Job}
 use Rattle.job.specs.declared.jobs.Output.{Output}
-use Rattle.table.specs.Resolved.{named}
-use Rattle.table.specs.QueryText.{QueryText}
-use Rattle.arrow_json.specs.QueryDocument.{ReadsQueryText}
-use Rattle.table.specs.History.{History}
+use Rattle.table.specs.Prelude.{History, QueryText, named}
 use Rattle.arrowtab.specs.Column.{FailedColumn}
-use Rattle.reports.specs.Exported.{exported}
-use Rattle.reports.specs.Fields.{schema_lines}
-use Rattle.reports.specs.Queried.{ShowsGroups}
+use Rattle.reports.specs.Prelude.{IsUnanswered, ShowsGroups, exported, first_lines, schema_lines, stats_text}
 use Rattle.arrowtab.specs.Output.{shown_as}
 use Rattle.arrowtab.specs.Run.{FailedQuery}
-use Rattle.reports.specs.QueryFaults.{IsUnanswered}
-use Rattle.reports.specs.Rows.{first_lines}
-use Rattle.reports.specs.Shown.{stats_text}
 use Rattle.reports.specs.declared.run_fault.ColumnFault.TheVariants.{Unread}
 use Rattle.reports.specs.declared.run_fault.RunFault.{RunFault}
 use Rattle.reports.specs.declared.run_fault.RunFault.TheVariants.{OfColumn, QueryUnread}

@@ -1,12 +1,9 @@
 -- What so many workers make of files, and what stops them.
 use Rattle.std.specs.Prelude.{◌≡◌, ◌⊎◌, ℕ, All, List, ◌∷◌, length, map, Option, Some}
-use Rattle.arrays.specs.File.{File}
-use Rattle.arrays.specs.Shape.{FieldShape}
+use Rattle.arrays.specs.Prelude.{FieldShape, File}
 use Rattle.loads.specs.Loaded.{AllLoaded, batches_of_files, fields_for}
 use Rattle.shared.specs.Hand.{AreNew, Hand, HasWidened}
-use Rattle.table.specs.Contents.{Contents}
-use Rattle.table.specs.History.{History}
-use Rattle.table.specs.Widened.{add_fault}
+use Rattle.table.specs.Prelude.{Contents, History, add_fault}
 use Rattle.arrowtab.specs.Column.{IsAllowed, fields_with, history_with}
 use Rattle.arrowtab.specs.Loaded.{IsLoaded, IsStopped}
 use Rattle.reports.specs.FileBatches.{FileBatch, batch_of}

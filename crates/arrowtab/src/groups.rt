@@ -1,11 +1,8 @@
 //! The output of `query`, over rows that are looked at in several pieces.
 ghost use Rattle.std.specs.Prelude.{◌≡◌, ◌≤◌, IfErr, IfOk, map, string_bytes};
-ghost use Rattle.table.specs.Answers.{group_shape};
+ghost use Rattle.table.specs.Prelude.{group_shape, named};
 ghost use Rattle.arrowtab.specs.Output.{shown_as};
-ghost use Rattle.table.specs.Resolved.{named};
-ghost use Rattle.reports.specs.OrMemory.{OrMemory};
-ghost use Rattle.reports.specs.Queried.{ShowsGroups};
-ghost use Rattle.reports.specs.QueryFaults.{IsUnanswered};
+ghost use Rattle.reports.specs.Prelude.{IsUnanswered, OrMemory, ShowsGroups};
 
 use arrays::NoMemory;
 use job::Output;

@@ -1,12 +1,11 @@
 //! What holds of all histories to which files are loaded, and of what is printed of them.
 ghost use Rattle.std.specs.Prelude.{◌≡◌, ℕ, List, Option, map};
 ghost use Rattle.std.specs.List.{flat_map};
-ghost use Rattle.arrays.specs.Shape.{FieldShape};
+ghost use Rattle.arrays.specs.Prelude.{FieldShape};
 ghost use Rattle.table.specs.History.{History};
 ghost use Rattle.arrowtab.specs.Column.{fields_with, history_with};
 ghost use Rattle.arrowtab.specs.Loaded.{IsLoaded};
-ghost use Rattle.reports.specs.FileBatches.{FileBatch};
-ghost use Rattle.reports.specs.Shown.{stats_text};
+ghost use Rattle.reports.specs.Prelude.{FileBatch, stats_text};
 
 /// What `stats` prints doesn't show whose batches came first: it is one text for all histories to which so many workers
 /// load the same files, with a column behind them or without.

@@ -1,7 +1,7 @@
 //! The files of a job, window after window.
 ghost use Rattle.std.specs.Prelude.{◌≡◌, ◌⊎◌, ◌^◌, ◌-◌, ◌<◌, All, IfErr, IfOk, map};
 ghost use Rattle.std.specs.List.{AllByRecursion};
-ghost use Rattle.arrow_json.specs.JsonFile.{AreUnder, file_of};
+ghost use Rattle.arrow_json.specs.Prelude.{AreUnder, file_of};
 ghost use Rattle.arrowtab.specs.Explained.{IsFileUnread};
 ghost use Rattle.reports.specs.OrMemory.{OrMemory};
 ghost use Rattle.arrowtab.specs.Run.{AreRead};

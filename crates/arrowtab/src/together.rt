@@ -3,19 +3,12 @@ ghost use Rattle.std.specs.Prelude.{◌≡◌, ◌≢◌, ◌⊎◌, ◌+◌, �
 ghost use Rattle.std.specs.Arc.{arc_value};
 ghost use Rattle.std.specs.List.{Any};
 ghost use mathlib.Core.List.{IsPrefix};
-ghost use Rattle.arrays.specs.Batch.{Batch};
-ghost use Rattle.arrays.specs.Shape.{field_of};
+ghost use Rattle.arrays.specs.Prelude.{Batch, field_of};
 ghost use Rattle.reports.specs.OrMemory.{OrMemory};
 ghost use Rattle.arrowtab.specs.Worked.{AreAsWide, HaveLoaded, Holds, IsWidenedFirst, StopsLoading};
 ghost use Rattle.loads.specs.Loaded.{batches_of_files, fields_for};
-ghost use Rattle.shared.specs.Balance.{IsOfWorkers};
-ghost use Rattle.shared.specs.Hand.{AreNew, HasAllItsPairs, columns_of_hand};
-ghost use Rattle.shared.specs.Known.{IsLegalKnown, known_of};
-ghost use Rattle.shared.specs.Missing.{AllThere};
-ghost use Rattle.shared.specs.Named.{IsNamed};
-ghost use Rattle.shared.specs.Opened.{IsWorkerCount};
-ghost use Rattle.table.specs.Stored.{stored_field};
-ghost use Rattle.table.specs.Widened.{add_fault};
+ghost use Rattle.shared.specs.Prelude.{AllThere, AreNew, HasAllItsPairs, IsLegalKnown, IsNamed, IsOfWorkers, IsWorkerCount, columns_of_hand, known_of};
+ghost use Rattle.table.specs.Prelude.{add_fault, stored_field};
 
 use arrays::{Field, File, RecordBatch};
 use loads::{LoadFault, load_all};

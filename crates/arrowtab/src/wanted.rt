@@ -1,6 +1,6 @@
 //! What a job asks for: its query and its column's field are read before any source is.
 ghost use Rattle.std.specs.Prelude.{IfErr, IfOk, option_map};
-ghost use Rattle.arrays.specs.Shape.{field_of};
+ghost use Rattle.arrays.specs.Prelude.{field_of};
 ghost use Rattle.arrowtab.specs.Column.{IsColumn, column_text};
 ghost use Rattle.reports.specs.OrMemory.{OrMemory};
 ghost use Rattle.arrowtab.specs.Wanted.{IsColumnUnread, IsUnread, IsWanted};

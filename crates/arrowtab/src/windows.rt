@@ -1,8 +1,7 @@
 //! Files that are read from their texts, side by side.
 ghost use Rattle.std.specs.Prelude.{IfErr, IfOk, OnOk, length, map};
 ghost use Rattle.std.specs.List.{AllZip};
-ghost use Rattle.reports.specs.OrMemory.{OrMemory};
-ghost use Rattle.reports.specs.Parsed.{AddsFiles, IsParsed, StopsParsing};
+ghost use Rattle.reports.specs.Prelude.{AddsFiles, IsParsed, OrMemory, StopsParsing};
 
 use arrays::{File, NoMemory};
 use arrow_json::{JsonFault, read_file_from_vec};

@@ -3,8 +3,7 @@
 //! times in so many pieces, and prints of each answer how many groups it has, and the numbers of their cells added up.
 
 ghost use Rattle.std.specs.Prelude.{◌≡◌, ◌≤◌, true};
-ghost use Rattle.table.specs.QueryShape.{query_shape};
-ghost use Rattle.table.specs.FirstFault.{fits};
+ghost use Rattle.table.specs.Prelude.{fits, query_shape};
 
 use crate::fault::Fault;
 use crate::making::{Nulls, Rule, batch, digits, longs, shorts};

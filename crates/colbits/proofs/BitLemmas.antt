@@ -9,9 +9,7 @@ use Rattle.std.proofs.lemmas.Simd.{map-map}
 use Rattle.std.proofs.lemmas.Bool.{cases_lt, cases_eq}
 use Rattle.std.proofs.lemmas.Nat.Bits.{bit_at-zero, bit_at_set_same, bit_at_set_other}
 use Rattle.std.proofs.lemmas.Option.{slice_get-get_or}
-use Rattle.colbits.specs.Bit.{bit, bit_in, bits}
-use Rattle.colbits.specs.Bitmap.{bit_of}
-use Rattle.colbits.specs.Slice.{slice}
+use Rattle.colbits.specs.Prelude.{bit, bit_in, bit_of, bits, slice}
 
 -- ---- lists of f a, f (a + 1), ..
 

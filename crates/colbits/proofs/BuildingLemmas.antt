@@ -6,9 +6,7 @@ use Rattle.std.proofs.lemmas.Bool.{cases_lt}
 use Rattle.std.proofs.lemmas.List.{append_assoc, get_or-append-add, get_or_append_left, get_or_past, get_or-replicate, get_or-take, length-replicate, length-take-le}
 use Rattle.std.proofs.lemmas.List.FromFn.{fill_by_all, get_or-map-range_with_len, length-map-range_with_len}
 use Rattle.std.proofs.lemmas.Nat.Bits.{bit_at_above, bit_at-zero, bit_at_ones, bit_at_ones_above}
-use Rattle.colbits.specs.Bit.{bit, bit_in, bits}
-use Rattle.colbits.specs.Bitmap.{bit_of}
-use Rattle.colbits.specs.Building.{AreWords, first_bits}
+use Rattle.colbits.specs.Prelude.{AreWords, bit, bit_in, bit_of, bits, first_bits}
 use Rattle.colbits.proofs.BitLemmas.{get_or-bits, length-bits}
 use Rattle.colbits.proofs.WordLemmas.{bit-append_high, bit-append_low, bit-take, bit-to_le, bit_at-mod, bit_at-shl_high, bit_at-shl_low, bit_in-and, bit_in-or, ones-shifted, places-more, ArePlaces, word-last}
 

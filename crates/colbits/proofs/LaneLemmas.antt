@@ -5,8 +5,7 @@ use Rattle.std.proofs.lemmas.List.{get_or-map}
 use Rattle.std.proofs.lemmas.Nat.Bits.{bit_at_ones}
 use lib.Lanes.{Each1, digits_l, number_l, zip2}
 use Rattle.std.specs.Int.{bit_at}
-use Rattle.colbits.specs.Bit.{bit, bit_in}
-use Rattle.colbits.specs.Slice.{slice}
+use Rattle.colbits.specs.Prelude.{bit, bit_in, slice}
 use Rattle.colbits.proofs.BitLemmas.{bit-drop}
 use Rattle.colbits.proofs.WordLemmas.{bit_at-mod, bit_at-shr, pow-256, bit-take, bit_in-and, bit_in-not, bit_in-or}
 

@@ -17,8 +17,7 @@ use Rattle.std.proofs.lemmas.Simd.{mask_l-lt, bit_mask_l, ones-mask_l}
 use lib.Lanes.{mask_l}
 use Rattle.std.proofs.lemmas.List.FromFn.{get_or-map-range_with_len}
 use Rattle.colbits.proofs.BitLemmas.{bytes-whole}
-use Rattle.colbits.specs.Bit.{bit, bit_in}
-use Rattle.colbits.specs.Bitmap.{bit_of}
+use Rattle.colbits.specs.Prelude.{bit, bit_in, bit_of}
 
 -- ---- one bit of a result
 

@@ -3,3 +3,4 @@ pub mod Bitmap
 pub mod Building
 pub mod Padding
 pub mod Slice
+pub mod Prelude

@@ -1,7 +1,6 @@
 -- The rows and the columns of lawful batches.
 use Rattle.std.proofs.Common.{◌≡◌, ◌∙◌, ℕ, ◌<◌, List, length, get_or, ap, arith}
-use Rattle.arrays.specs.Batch.{Batch}
-use Rattle.arrays.specs.Shape.{FieldShape, kind_of_field}
+use Rattle.arrays.specs.Prelude.{Batch, FieldShape, kind_of_field}
 use Rattle.arrays.proofs.BatchLemmas.{kinds, whole}
 use Rattle.compaction.specs.Fronts.{IsBatchOf, IsOfKind}
 

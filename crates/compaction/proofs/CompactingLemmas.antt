@@ -7,22 +7,15 @@ use Rattle.std.proofs.lemmas.Bool.{and_parts, not-true, ltb-false}
 use Rattle.std.proofs.lemmas.List.{append-nil, drop-drop, drop-map, drop_all, length-map, length-take-le, map-append, take-map, take_rest}
 use Rattle.std.proofs.lemmas.List.Elements.{All-drop, All-push, All-same, All-take}
 use Rattle.std.proofs.lemmas.Slice.Zip.{AllZip-long}
-use Rattle.arrays.specs.Batch.{Batch, Table, rows_of}
-use Rattle.arrays.specs.Lengths.{is_past}
-use Rattle.arrays.specs.Seen.{Seen}
-use Rattle.arrays.specs.Shape.{FieldShape}
+use Rattle.arrays.specs.Prelude.{Batch, FieldShape, Seen, Table, is_past, most_slots, rows_of}
 use Rattle.arrays.proofs.BatchLemmas.{length-rows_of, whole}
 use Rattle.group.proofs.ColumnsLemmas.{all_zip-push}
 use Rattle.group.specs.StatsOfColumns.{AreTheirs}
 use Rattle.group.specs.declared.stats.ColumnStats.{ColumnStats}
-use Rattle.compaction.specs.Fronts.{IsBatchOf}
-use Rattle.compaction.specs.Neighbours.{AreGroups, IsGroup, is_big, is_one, together}
-use Rattle.compaction.specs.Statistics.{AreOfFew, AreStatsOf}
-use Rattle.compaction.specs.Under.{HaveStats, IsUnder, pieces_of}
+use Rattle.compaction.specs.Prelude.{AreGroups, AreOfFew, AreStatsOf, HaveStats, IsBatchOf, IsGroup, IsUnder, is_big, is_one, pieces_of, together}
 use Rattle.compaction.proofs.FrontLemmas.{Shared, length-tables, tables_of}
 use Rattle.compaction.proofs.JoinedLemmas.{batches-of}
 use Rattle.compaction.proofs.StatisticsLemmas.{SharedStats, of-all-rows, of-columns}
-use Rattle.arrays.specs.Limits.{most_slots}
 
 -- ---- parts of lists
 

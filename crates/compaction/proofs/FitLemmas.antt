@@ -6,13 +6,8 @@ use Rattle.std.proofs.lemmas.Bool.{and_from, and_parts, not-true, not_from_false
 use Rattle.std.proofs.lemmas.Bool.Decides.{nat_tests}
 use Rattle.std.proofs.lemmas.Grind.{flat_map-append}
 use Rattle.std.proofs.lemmas.List.Sums.{sum_by-append}
-use Rattle.arrays.specs.Batch.{Table, column}
-use Rattle.arrays.specs.Item.{Item}
-use Rattle.arrays.specs.OffsetWidths.{Narrow, Wide}
+use Rattle.arrays.specs.Prelude.{FieldShape, Item, Kind, Narrow, Table, Wide, column, inner_items, is_past, is_too_big, items_in, kind_of_field, text_bytes, text_length}
 use Rattle.arrays.specs.Kind as kind
-use Rattle.arrays.specs.Kind.{Kind}
-use Rattle.arrays.specs.Lengths.{inner_items, is_past, is_too_big, items_in, text_bytes, text_length}
-use Rattle.arrays.specs.Shape.{FieldShape, kind_of_field}
 use Rattle.arrays.proofs.BatchLemmas.{some-found, column-append}
 use Rattle.compaction.specs.Neighbours.{is_big, is_one}
 

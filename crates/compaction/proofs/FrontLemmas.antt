@@ -11,21 +11,14 @@ use Rattle.std.proofs.lemmas.List.{append-nil, get_or-map, length-map, take_all,
 use Rattle.std.proofs.lemmas.List.Folds.{list_any-append}
 use Rattle.std.proofs.Math.Seq.{take-add}
 use Rattle.std.proofs.lemmas.List.FromFn.{length-enumerate_from}
-use Rattle.arrays.specs.Batch.{Batch, Table, column, rows_of}
-use Rattle.arrays.specs.Kind.{Kind}
-use Rattle.arrays.specs.Lengths.{is_past}
-use Rattle.arrays.specs.Seen.{Seen}
+use Rattle.arrays.specs.Prelude.{Batch, FieldShape, Kind, Seen, Table, column, field, is_past, kind_of_field, most_slots, rows_of}
 use Rattle.arrays.specs.Shape as shape
-use Rattle.arrays.specs.Shape.{FieldShape, field, kind_of_field}
 use Rattle.arrays.proofs.BatchLemmas.{length-rows_of, column-append}
-use Rattle.compaction.specs.Fronts.{IsBatchOf, IsLongest, IsOfKind, fits_at, fits_in, has_few}
-use Rattle.compaction.specs.Neighbours.{IsGroup, is_big, is_one, together}
-use Rattle.compaction.specs.Sizes.{levels, size_at}
+use Rattle.compaction.specs.Prelude.{IsBatchOf, IsGroup, IsLongest, IsOfKind, fits_at, fits_in, has_few, is_big, is_one, levels, size_at, together}
 use Rattle.compaction.proofs.BatchLemmas.{count-of, kind-at}
 use Rattle.compaction.proofs.FitLemmas.{big-any, column-front, is_big_at, less-past, none-of}
 use Rattle.compaction.proofs.GroupLemmas.{together-append, together-split}
 use Rattle.compaction.proofs.SizeLemmas.{fits-at-all, size-append, size-none, too-big-at}
-use Rattle.arrays.specs.Limits.{most_slots}
 
 abbrev pub Shared : Type 0
 Shared = Arc Batch Global

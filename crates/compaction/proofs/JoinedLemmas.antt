@@ -13,21 +13,12 @@ use Rattle.std.proofs.lemmas.List.Folds.{list_all_at, list_all_more, list_any_at
 use Rattle.std.proofs.lemmas.List.FromFn.{get_or-map-range_with_len, length-map-range_with_len, length-enumerate_from}
 use Rattle.std.proofs.lemmas.Slice.Zip.{AllZip-long, get_or-zip, length-zip}
 use Rattle.arrays.proofs.ListArrays.{same_kind-refl}
-use Rattle.arrays.specs.Batch.{Batch, Row, Table, batch_fault, column, row_of, rows_of}
-use Rattle.arrays.specs.Dictionary.{over}
-use Rattle.arrays.specs.Item.{Item, null}
+use Rattle.arrays.specs.Prelude.{Batch, FieldShape, Item, Kind, Row, Seen, Table, batch_fault, column, is_past, is_too_big, joined_items, kind_of_field, null, over, row_of, rows_of, same_kind}
 use Rattle.arrays.specs.Kind as kind
-use Rattle.arrays.specs.Kind.{Kind, same_kind}
-use Rattle.arrays.specs.Lengths.{is_past, is_too_big, joined_items}
-use Rattle.arrays.specs.Seen.{Seen}
-use Rattle.arrays.specs.Shape.{FieldShape, kind_of_field}
 use Rattle.arrays.proofs.BatchLemmas.{length-rows_of, row-item, wrong_kind, whole, faultless, column-is, column-append, length-column}
 use Rattle.group.proofs.ColumnsLemmas.{all_zip-more, all_zip-push}
 use Rattle.select.specs.Joined.{kind_of_first}
-use Rattle.compaction.specs.Columns.{AreJoinable, IsColumnOf, IsJoined, IsOver}
-use Rattle.compaction.specs.Fronts.{IsBatchOf}
-use Rattle.compaction.specs.Neighbours.{is_big, together}
-use Rattle.compaction.specs.Under.{IsDictionary, IsUnder, NamesFront, NamesWhole, are_as_long, entry_count, is_as_long}
+use Rattle.compaction.specs.Prelude.{AreJoinable, IsBatchOf, IsColumnOf, IsDictionary, IsJoined, IsOver, IsUnder, NamesFront, NamesWhole, are_as_long, entry_count, is_as_long, is_big, together}
 use Rattle.compaction.proofs.BatchLemmas.{count-of, kind-at}
 use Rattle.compaction.proofs.FitLemmas.{big-any, is_big_at}
 use Rattle.compaction.proofs.FrontLemmas.{any_field, enumerated-at}

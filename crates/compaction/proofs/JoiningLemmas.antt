@@ -8,14 +8,9 @@ use Rattle.std.proofs.lemmas.List.Elements.{All-append, All-map, All-tail}
 use Rattle.std.proofs.lemmas.List.Sums.{list_all-from_AllPass}
 use Rattle.arrays.proofs.DictionaryLemmas.{all-looked, code-longer}
 use Rattle.arrays.proofs.ListArrays.{same_kind-refl}
-use Rattle.arrays.specs.Dictionary.{codes_of, encoded, is_code, looked_up}
-use Rattle.arrays.specs.Item.{Item}
+use Rattle.arrays.specs.Prelude.{Item, Seen, codes_of, encoded, int32, is_code, is_past, joined_items, looked_up, same_kind}
 use Rattle.arrays.specs.Kind as kind
-use Rattle.arrays.specs.Kind.{int32, same_kind}
-use Rattle.arrays.specs.Lengths.{is_past, joined_items}
-use Rattle.arrays.specs.Seen.{Seen}
-use Rattle.select.specs.Fault.{IsSelectFault}
-use Rattle.select.specs.Joined.{IsEncoded, concat_fault, is_joined_too_big, joined, kind_of_first}
+use Rattle.select.specs.Prelude.{IsEncoded, IsSelectFault, concat_fault, is_joined_too_big, joined, kind_of_first}
 use Rattle.select.specs.declared.fault.SelectFault.{SelectFault}
 use Rattle.select.specs.declared.fault.SelectFault.TheVariants.{NoMemory}
 use Rattle.select.proofs.JoinLemmas.{fault-of}

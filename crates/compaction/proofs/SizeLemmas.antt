@@ -5,11 +5,8 @@ use Rattle.std.proofs.lemmas.Bool.{or_from, or_left, or_right}
 use Rattle.std.proofs.lemmas.Grind.{flat_map-append}
 use Rattle.std.proofs.lemmas.List.{append-nil}
 use Rattle.std.proofs.lemmas.List.Sums.{sum_by-append}
-use Rattle.arrays.specs.Item.{Item, items_of, list, list_of, null}
-use Rattle.arrays.specs.OffsetWidths.{Narrow, Wide}
+use Rattle.arrays.specs.Prelude.{Item, Kind, Narrow, Wide, inner_items, is_past, is_too_big, item_kind, items_in, items_of, list, list_of, null, text_length}
 use Rattle.arrays.specs.Kind as kind
-use Rattle.arrays.specs.Kind.{Kind, item_kind}
-use Rattle.arrays.specs.Lengths.{inner_items, is_past, is_too_big, items_in, text_length}
 use Rattle.arrays.proofs.ListLemmas.{items_of-list_of}
 use Rattle.compaction.specs.Sizes.{levels, size_at}
 use Rattle.arrays.proofs.CutLemmas.{past-more}

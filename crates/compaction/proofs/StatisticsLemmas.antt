@@ -9,22 +9,14 @@ use Rattle.std.proofs.lemmas.List.{get_or-map, get_or-drop, length-map, take_all
 use Rattle.std.proofs.lemmas.List.Elements.{All-head, All-tail}
 use Rattle.std.proofs.lemmas.Slice.Zip.{AllZip-long}
 use Rattle.std.proofs.lemmas.List.FromFn.{length-enumerate_from}
-use Rattle.arrays.specs.Batch.{Batch, Table, column, rows_of}
-use Rattle.arrays.specs.Item.{Item}
-use Rattle.arrays.specs.Seen.{Seen}
-use Rattle.arrays.specs.Shape.{FieldShape, kind_of_field}
+use Rattle.arrays.specs.Prelude.{Batch, FieldShape, Item, Seen, Table, column, kind_of_field, most_slots, rows_of}
 use Rattle.arrays.proofs.BatchLemmas.{column-is, column-append, length-column}
-use Rattle.group.specs.StatsOfColumns.{AreJoined, AreTheirs}
-use Rattle.group.specs.Summary.{AreStats}
+use Rattle.group.specs.Prelude.{AreJoined, AreStats, AreTheirs}
 use Rattle.group.specs.declared.stats.ColumnStats.{ColumnStats}
-use Rattle.compaction.specs.Fronts.{IsBatchOf}
-use Rattle.compaction.specs.Neighbours.{together}
-use Rattle.compaction.specs.Statistics.{AreOfFew, AreStatsOf}
-use Rattle.compaction.specs.Under.{HaveStats, pieces_of}
+use Rattle.compaction.specs.Prelude.{AreOfFew, AreStatsOf, HaveStats, IsBatchOf, pieces_of, together}
 use Rattle.compaction.proofs.BatchLemmas.{count-of, kind-at}
 use Rattle.compaction.proofs.FrontLemmas.{any_field, rows-front, together-more}
 use Rattle.compaction.proofs.JoinedLemmas.{IsColumn, all_zip-at}
-use Rattle.arrays.specs.Limits.{most_slots}
 
 -- ---- two tables
 

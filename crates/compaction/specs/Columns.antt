@@ -1,10 +1,7 @@
 -- Columns of batches that are put together.
 use Rattle.std.specs.Prelude.{◌≡◌, ℕ, ◌≤◌, All, List, length, slice_index_or, false, Option, is_some}
-use Rattle.arrays.specs.Batch.{Batch, column, rows_of}
+use Rattle.arrays.specs.Prelude.{Batch, Seen, column, is_past, is_too_big, joined_items, rows_of, same_kind}
 use Rattle.arrays.specs.Kind as kind
-use Rattle.arrays.specs.Kind.{same_kind}
-use Rattle.arrays.specs.Lengths.{is_past, is_too_big, joined_items}
-use Rattle.arrays.specs.Seen.{Seen}
 use Rattle.select.specs.Joined.{kind_of_first}
 use Rattle.compaction.specs.Under.{NamesFront}
 

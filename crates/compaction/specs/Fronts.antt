@@ -1,10 +1,6 @@
 -- The longest front of tables whose rows pass a test.
 use Rattle.std.specs.Prelude.{◌≡◌, ◌⊎◌, ℕ, ◌+◌, ◌<◌, ◌≤◌, nat_lt, List, length, take, slice_index_or, Bool, true, false, not, ◌&&◌, None}
-use Rattle.arrays.specs.Batch.{Batch, Table, batch_fault, column}
-use Rattle.arrays.specs.Kind.{Kind}
-use Rattle.arrays.specs.Lengths.{is_past, is_too_big}
-use Rattle.arrays.specs.Seen.{Seen}
-use Rattle.arrays.specs.Shape.{FieldShape}
+use Rattle.arrays.specs.Prelude.{Batch, FieldShape, Kind, Seen, Table, batch_fault, column, is_past, is_too_big}
 use Rattle.compaction.specs.Neighbours.{together}
 use Rattle.compaction.specs.Sizes.{size_at}
 

@@ -1,9 +1,7 @@
 -- Neighbouring tables put together, as long as one batch holds them.
 use Rattle.std.specs.Prelude.{◌≡◌, ◌⊎◌, ℕ, ◌+◌, ◌<◌, ◌≤◌, nat_lt, List, [], ◌∷◌, ◌++◌, flat_map, length, take, drop, slice_index_or, is_some, position, Bool, true, false, not, ◌&&◌}
 use Rattle.std.specs.List.{enumerate_from}
-use Rattle.arrays.specs.Batch.{Table, column}
-use Rattle.arrays.specs.Lengths.{is_past, is_too_big}
-use Rattle.arrays.specs.Shape.{FieldShape, kind_of_field}
+use Rattle.arrays.specs.Prelude.{FieldShape, Table, column, is_past, is_too_big, kind_of_field}
 
 -- Some column holds more than 32-bit offsets count (Arrow columnar format, "Variable-size binary layout", "Variable-size
 -- list layout"). Of a dictionary-encoded column codes alone are put together.

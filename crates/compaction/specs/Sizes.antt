@@ -1,9 +1,7 @@
 -- How much texts and lists hold (Arrow columnar format, "Variable-size binary layout", "Variable-size list layout").
 use Rattle.std.specs.Prelude.{ℕ, zero, suc, List, length}
-use Rattle.arrays.specs.Item.{Item}
-use Rattle.arrays.specs.OffsetWidths.{Narrow}
-use Rattle.arrays.specs.Kind.{Kind, texts, lists}
-use Rattle.arrays.specs.Lengths.{inner_items, text_bytes}
+use Rattle.arrays.specs.Prelude.{Item, Kind, Narrow, inner_items, text_bytes}
+use Rattle.arrays.specs.Kind.{texts, lists}
 
 -- At how many levels a column may hold too much. Texts with offsets of 64 bits never do.
 abbrev pub levels : Kind → ℕ

@@ -1,12 +1,10 @@
 -- Statistics of tables.
 use Rattle.std.specs.Prelude.{◌≤◌, List, length}
 use Rattle.std.specs.List.{AllZip, enumerate_from}
-use Rattle.arrays.specs.Batch.{Table, column}
-use Rattle.arrays.specs.Shape.{FieldShape, kind_of_field}
+use Rattle.arrays.specs.Prelude.{FieldShape, Table, column, kind_of_field, most_slots}
 use Rattle.group.specs.Summary.{AreStats}
 use Rattle.group.specs.declared.stats.ColumnStats.{ColumnStats}
 use Rattle.compaction.specs.Neighbours.{together}
-use Rattle.arrays.specs.Limits.{most_slots}
 
 -- These are the statistics of the table's columns.
 abbrev pub AreStatsOf : List FieldShape → Table → List ColumnStats → Type 0

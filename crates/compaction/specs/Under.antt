@@ -6,11 +6,8 @@ use Rattle.std.specs.declared.sync.Arc.{Arc}
 use Rattle.std.specs.declared.vec.Vec.{Vec}
 use Rattle.std.specs.List.{AllZip, list_all, zip}
 use mathlib.Core.List.{IsPrefix}
-use Rattle.arrays.specs.Batch.{Batch, batch_fault}
+use Rattle.arrays.specs.Prelude.{Batch, FieldShape, Seen, batch_fault, kind_of_field, same_kind}
 use Rattle.arrays.specs.Kind as kind
-use Rattle.arrays.specs.Kind.{same_kind}
-use Rattle.arrays.specs.Seen.{Seen}
-use Rattle.arrays.specs.Shape.{FieldShape, kind_of_field}
 use Rattle.group.specs.StatsOfColumns.{AreTheirs}
 use Rattle.group.specs.declared.stats.ColumnStats.{ColumnStats}
 

@@ -3,9 +3,8 @@
 ghost use Rattle.std.specs.Prelude.{◌≡◌, IfOk, is_some, length, map, option_map};
 ghost use Rattle.std.specs.Arc.{arc_value};
 ghost use Rattle.std.specs.List.{AllZip};
-ghost use Rattle.arrays.specs.Batch.{rows_of};
+ghost use Rattle.arrays.specs.Prelude.{rows_of, same_kind};
 ghost use Rattle.arrays.specs.Kind as kind;
-ghost use Rattle.arrays.specs.Kind.{same_kind};
 ghost use Rattle.compaction.specs.Columns.{IsOver};
 ghost use Rattle.compaction.specs.Under.{IsDictionary, IsUnder, NamesFront, NamesWhole, are_as_long, entry_count, is_as_long};
 

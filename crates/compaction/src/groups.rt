@@ -2,8 +2,7 @@
 
 ghost use Rattle.std.specs.Prelude.{◌<◌, ◌≤◌, All, length, map};
 ghost use Rattle.std.specs.Arc.{arc_value};
-ghost use Rattle.arrays.specs.Batch.{Batch, rows_of};
-ghost use Rattle.arrays.specs.Kind.{Kind};
+ghost use Rattle.arrays.specs.Prelude.{Batch, Kind, rows_of};
 ghost use Rattle.compaction.specs.Fronts.{IsBatchOf, IsLongest, IsOfKind, fits_at, fits_in, has_few};
 ghost use Rattle.compaction.specs.Neighbours.{IsGroup};
 

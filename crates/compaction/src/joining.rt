@@ -3,16 +3,12 @@
 ghost use Rattle.std.specs.Prelude.{◌≡◌, ◌⊎◌, ◌<◌, ◌≤◌, All, IfOk, false, length, map, option_map};
 ghost use Rattle.std.specs.Arc.{arc_value};
 ghost use Rattle.std.specs.List.{AllZip};
-ghost use Rattle.arrays.specs.Batch.{Batch, rows_of};
-ghost use Rattle.arrays.specs.Dictionary.{codes_of};
+ghost use Rattle.arrays.specs.Prelude.{Batch, Seen, codes_of, is_past, most_slots, rows_of};
 ghost use Rattle.arrays.specs.Kind as kind;
-ghost use Rattle.arrays.specs.Lengths.{is_past};
-ghost use Rattle.arrays.specs.Seen.{Seen};
 ghost use Rattle.select.specs.Joined.{IsEncoded, is_joined_too_big, joined, kind_of_first};
 ghost use Rattle.compaction.specs.Columns.{AreJoinable, IsColumnOf, IsJoined};
 ghost use Rattle.compaction.specs.Neighbours.{is_big, together};
 ghost use Rattle.compaction.specs.Under.{IsDictionary, IsUnder};
-ghost use Rattle.arrays.specs.Limits.{most_slots};
 
 use crate::columns::column_of;
 use crate::dictionaries::with_dictionaries;

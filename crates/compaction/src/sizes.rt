@@ -2,11 +2,8 @@
 
 ghost use Rattle.std.specs.Prelude.{◌≡◌, ◌+◌, ◌<◌, ◌≤◌, true, length, IfNone, IfSome};
 ghost use Rattle.arrays.specs.Kind as kind;
-ghost use Rattle.arrays.specs.Kind.{depth};
-ghost use Rattle.arrays.specs.Lengths.{inner_items, is_past, text_bytes};
-ghost use Rattle.arrays.specs.Slot.{is_list};
+ghost use Rattle.arrays.specs.Prelude.{depth, inner_items, is_list, is_past, most_slots, text_bytes};
 ghost use Rattle.compaction.specs.Sizes.{levels, size_at};
-ghost use Rattle.arrays.specs.Limits.{most_slots};
 
 use arrays::{MOST_SLOTS, OffsetWidth, View, ViewType};
 

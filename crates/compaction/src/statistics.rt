@@ -3,8 +3,7 @@
 ghost use Rattle.std.specs.Prelude.{◌≤◌, IfOk, List, length};
 ghost use Rattle.std.specs.Arc.{arc_value};
 ghost use Rattle.std.specs.List.{AllZip};
-ghost use Rattle.arrays.specs.Batch.{Table};
-ghost use Rattle.arrays.specs.Shape.{FieldShape};
+ghost use Rattle.arrays.specs.Prelude.{FieldShape, Table};
 ghost use Rattle.compaction.specs.Neighbours.{together};
 ghost use Rattle.compaction.specs.Statistics.{AreOfFew, AreStatsOf};
 ghost use Rattle.compaction.specs.Under.{pieces_of};

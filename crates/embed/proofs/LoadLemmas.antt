@@ -7,31 +7,20 @@ use Rattle.std.proofs.lemmas.Slice.Zip.{all_zipped_more}
 use Rattle.std.proofs.lemmas.Option.{get_or_from_slice_get, slice_get-get_or, slice_get-map, slice_get_within}
 use Rattle.std.specs.Prelude.{◌⊎◌}
 use Rattle.std.specs.List.{AllZip}
-use Rattle.arrays.specs.Batch.{Batch, Table, rows_of}
-use Rattle.arrays.specs.File.{File}
-use Rattle.arrays.specs.First.{first}
-use Rattle.arrays.specs.Shape.{FieldShape}
-use Rattle.arrow_json.specs.FaultAt.{Tells}
-use Rattle.arrow_json.specs.JsonTable.{FileData}
-use Rattle.arrow_json.specs.JsonFault.{JsonFault}
+use Rattle.arrays.specs.Prelude.{Batch, FieldShape, File, Table, first, rows_of}
+use Rattle.arrow_json.specs.Prelude.{AreUnder, BytesFault, FileData, JsonFault, Reads, Tells, file_of}
 use Rattle.arrow_json.specs.JsonFaultKinds.{NoMemory as wanting}
-use Rattle.arrow_json.specs.JsonFile.{AreUnder, BytesFault, Reads, file_of}
-use Rattle.table.specs.Cause.{IsLegal, batch_cause, cause, difference}
-use Rattle.table.specs.Contents.{Contents}
-use Rattle.table.specs.History.{History}
+use Rattle.table.specs.Prelude.{Contents, History, IsLegal, batch_cause, cause, difference}
 use Rattle.table.specs.declared.refusal.Refusal.{Refusal}
 use Rattle.table.specs.declared.refusal.Refusal.TheVariants as refusal
 use Rattle.table.specs.declared.refusal.Refusal.TheVariants.{SchemaDiffers}
 use Rattle.reports.proofs.FileLemmas.{AreKept, data_of, file-listed}
 use Rattle.reports.proofs.ParseLemmas.{reported_stands}
-use Rattle.reports.specs.FileBatches.{FileBatch, batch_of, batches_with_fields, table_fields}
-use Rattle.reports.specs.OrMemory.{OrMemory}
-use Rattle.reports.specs.Parsed.{IsTextOf}
+use Rattle.reports.specs.Prelude.{FileBatch, IsTextOf, OrMemory, batch_of, batches_with_fields, table_fields}
 use Rattle.reports.specs.declared.run_fault.FileFault.TheVariants.{Json, Refused}
 use Rattle.reports.specs.declared.run_fault.RunFault.{RunFault}
 use Rattle.reports.specs.declared.run_fault.RunFault.TheVariants.{NoMemory, OfFile}
-use Rattle.embed.specs.Loaded.{AddsAll, HoldsFiles, all_batches}
-use Rattle.embed.specs.Refused.{IsStoppedIn, StopsFiles, StopsIn, StopsReading, StopsTexts}
+use Rattle.embed.specs.Prelude.{AddsAll, HoldsFiles, IsStoppedIn, StopsFiles, StopsIn, StopsReading, StopsTexts, all_batches}
 
 -- ---- texts
 

@@ -1,19 +1,10 @@
 -- What a table answers to the bytes of a query.
 use Rattle.std.specs.Prelude.{◌≡◌, ◌⊎◌, ℕ, List, [], Ok}
-use Rattle.table.specs.Groups.{GroupShape, groups}
-use Rattle.arrays.specs.Batch.{Batch}
-use Rattle.arrays.specs.Shape.{FieldShape}
-use Rattle.arrow_json.specs.QueryDocument.{ReadsQueryText}
-use Rattle.table.specs.QueryShape.{QueryShape}
-use Rattle.table.specs.Resolved.{resolved}
-use Rattle.results.specs.Result.{result_batch}
-use Rattle.results.specs.Types.{result_types}
-use Rattle.table.specs.Contents.{Contents, admitted}
-use Rattle.table.specs.History.{History, rows}
-use Rattle.table.specs.Stored.{stored_fields}
-use Rattle.reports.specs.GroupLines.{column_names}
-use Rattle.reports.specs.Queried.{PrintsGroups}
-use Rattle.reports.specs.QueryFaults.{IsUnanswered, IsUnreadQuery}
+use Rattle.table.specs.Prelude.{Contents, GroupShape, History, QueryShape, admitted, groups, resolved, rows, stored_fields}
+use Rattle.arrays.specs.Prelude.{Batch, FieldShape}
+use Rattle.arrow_json.specs.Prelude.{ReadsQueryText}
+use Rattle.results.specs.Prelude.{result_batch, result_types}
+use Rattle.reports.specs.Prelude.{IsUnanswered, IsUnreadQuery, PrintsGroups, column_names}
 use Rattle.reports.specs.declared.run_fault.RunFault.{RunFault}
 
 -- The text is what `query` prints of the table, for the query that the bytes are read as.

@@ -1,11 +1,9 @@
 -- What a table holds that files were loaded into, one after the other.
 use Rattle.std.specs.Prelude.{◌≡◌, ℕ, List, All, None, map}
 use Rattle.std.specs.List.{AllZip, flat_map}
-use Rattle.arrays.specs.Shape.{FieldShape}
-use Rattle.arrow_json.specs.JsonTable.{FileData}
-use Rattle.arrow_json.specs.JsonFile.{Reads}
-use Rattle.table.specs.Cause.{IsLegal, difference}
-use Rattle.table.specs.History.{History}
+use Rattle.arrays.specs.Prelude.{FieldShape}
+use Rattle.arrow_json.specs.Prelude.{FileData, Reads}
+use Rattle.table.specs.Prelude.{History, IsLegal, difference}
 use Rattle.reports.specs.FileBatches.{FileBatch, batches_with_fields, table_fields}
 
 -- The batches of all files, in order.

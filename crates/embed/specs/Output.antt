@@ -1,16 +1,10 @@
 -- What is printed of files, and the line of a fault.
 use Rattle.std.specs.Prelude.{◌≡◌, ◌⊎◌, ℕ, List, [], ⊤}
 use Rattle.std.specs.Fmt.{decimal}
-use Rattle.arrays.specs.Shape.{FieldShape}
-use Rattle.arrow_json.specs.QueryDocument.{ReadsQueryText}
-use Rattle.table.specs.QueryShape.{QueryShape}
-use Rattle.table.specs.History.{History}
-use Rattle.reports.specs.Exported.{exported}
-use Rattle.reports.specs.FaultLine.{line_under}
-use Rattle.reports.specs.Fields.{schema_lines}
-use Rattle.reports.specs.Queried.{PrintsGroups}
-use Rattle.reports.specs.QueryFaults.{IsUnanswered, IsUnreadQuery}
-use Rattle.reports.specs.Shown.{stats_text}
+use Rattle.arrays.specs.Prelude.{FieldShape}
+use Rattle.arrow_json.specs.Prelude.{ReadsQueryText}
+use Rattle.table.specs.Prelude.{History, QueryShape}
+use Rattle.reports.specs.Prelude.{IsUnanswered, IsUnreadQuery, PrintsGroups, exported, line_under, schema_lines, stats_text}
 use Rattle.reports.specs.declared.run_fault.RunFault.{RunFault}
 use Rattle.reports.specs.declared.run_fault.RunFault.TheVariants.{OfFile}
 use Rattle.embed.specs.Loaded.{HoldsFiles}

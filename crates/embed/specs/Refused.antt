@@ -1,10 +1,8 @@
 -- Why files can't be loaded.
 use Rattle.std.specs.Prelude.{◌≡◌, ◌⊎◌, ◌++◌, ℕ, List, Some, slice_get, take}
 use Rattle.std.specs.List.{AllZip}
-use Rattle.arrays.specs.Shape.{FieldShape}
-use Rattle.arrow_json.specs.JsonTable.{FileData}
-use Rattle.arrow_json.specs.JsonFault.{JsonFault}
-use Rattle.arrow_json.specs.JsonFile.{BytesFault, Reads}
+use Rattle.arrays.specs.Prelude.{FieldShape}
+use Rattle.arrow_json.specs.Prelude.{BytesFault, FileData, JsonFault, Reads}
 use Rattle.table.specs.Cause.{IsLegal, handed_cause}
 use Rattle.table.specs.declared.refusal.Refusal.{Refusal}
 use Rattle.reports.specs.FileBatches.{FileBatch, batches_with_fields, table_fields}

@@ -1,9 +1,8 @@
 //! What a query answers, as a table.
 ghost use Rattle.std.specs.Prelude.{◌≡◌, IfErr, IfOk};
 ghost use Rattle.embed.specs.Answer.{IsAnswerTable, IsNamedAnswer, StopsAnswer, of_batch};
-ghost use Rattle.table.specs.Resolved.{named};
-ghost use Rattle.reports.specs.OrMemory.{OrMemory};
-ghost use Rattle.reports.specs.QueryFaults.{IsUnanswered};
+ghost use Rattle.table.specs.Prelude.{named};
+ghost use Rattle.reports.specs.Prelude.{IsUnanswered, OrMemory};
 
 use arrays::{NoMemory, RecordBatch};
 use reports::{RunFault, column_names, placed_groups, placed_query, read_query_text};

@@ -3,13 +3,8 @@ ghost use Rattle.std.specs.Prelude.{◌≡◌, IfErr, IfOk, map, string_bytes};
 ghost use Rattle.embed.specs.Answer.{IsAnswerTable, PrintsAnswer, StopsAnswer};
 ghost use Rattle.embed.specs.Loaded.{HoldsFiles};
 ghost use Rattle.embed.specs.Refused.{StopsTexts};
-ghost use Rattle.table.specs.Resolved.{named};
-ghost use Rattle.reports.specs.Exported.{exported};
-ghost use Rattle.reports.specs.Fields.{schema_lines};
-ghost use Rattle.reports.specs.Queried.{PrintsGroups};
-ghost use Rattle.reports.specs.QueryFaults.{IsUnanswered};
-ghost use Rattle.reports.specs.Shown.{stats_text};
-ghost use Rattle.reports.specs.OrMemory.{OrMemory};
+ghost use Rattle.table.specs.Prelude.{named};
+ghost use Rattle.reports.specs.Prelude.{IsUnanswered, OrMemory, PrintsGroups, exported, schema_lines, stats_text};
 
 use crate::loading::load_files;
 use crate::reading::read_files;

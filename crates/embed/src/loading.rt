@@ -4,10 +4,9 @@ ghost use Rattle.std.specs.Arc.{arc_value};
 ghost use Rattle.std.specs.List.{AllByRecursion};
 ghost use Rattle.embed.specs.Loaded.{AddsAll, all_batches};
 ghost use Rattle.embed.specs.Refused.{StopsIn, StopsFiles};
-ghost use Rattle.arrow_json.specs.JsonFile.{AreUnder, file_of};
-ghost use Rattle.reports.specs.FileBatches.{FileBatch, batch_of, table_fields};
+ghost use Rattle.arrow_json.specs.Prelude.{AreUnder, file_of};
+ghost use Rattle.reports.specs.Prelude.{FileBatch, OrMemory, batch_of, table_fields};
 ghost use Rattle.table.specs.Stored.{stored_fields};
-ghost use Rattle.reports.specs.OrMemory.{OrMemory};
 
 use arrays::{File, NoMemory, RecordBatch, Schema};
 use reports::{FileFault, RunFault};

@@ -2,8 +2,7 @@
 ghost use Rattle.std.specs.Prelude.{IfErr, IfOk, map};
 ghost use Rattle.std.specs.List.{AllZip};
 ghost use Rattle.embed.specs.Refused.{StopsReading};
-ghost use Rattle.reports.specs.Parsed.{IsTextOf};
-ghost use Rattle.reports.specs.OrMemory.{OrMemory};
+ghost use Rattle.reports.specs.Prelude.{IsTextOf, OrMemory};
 
 use arrays::File;
 use arrow_json::read_file;

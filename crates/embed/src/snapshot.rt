@@ -1,13 +1,8 @@
 //! A table at a moment, in one's own process.
 ghost use Rattle.std.specs.Prelude.{◌≡◌, IfErr, IfOk, string_bytes};
 ghost use Rattle.embed.specs.Answer.{IsAnswerTable, PrintsAnswer, StopsAnswer};
-ghost use Rattle.table.specs.Resolved.{named};
-ghost use Rattle.reports.specs.Exported.{exported};
-ghost use Rattle.reports.specs.Fields.{schema_lines};
-ghost use Rattle.reports.specs.Queried.{PrintsGroups};
-ghost use Rattle.reports.specs.QueryFaults.{IsUnanswered};
-ghost use Rattle.reports.specs.Shown.{stats_text};
-ghost use Rattle.reports.specs.OrMemory.{OrMemory};
+ghost use Rattle.table.specs.Prelude.{named};
+ghost use Rattle.reports.specs.Prelude.{IsUnanswered, OrMemory, PrintsGroups, exported, schema_lines, stats_text};
 
 use crate::answering::answer_table;
 use crate::loaded::Loaded;

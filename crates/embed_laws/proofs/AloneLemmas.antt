@@ -3,9 +3,7 @@ use Rattle.std.proofs.Common.{zero, suc, ◌%◌, take, option_map, ◌≡◌, �
 use Rattle.std.proofs.lemmas.Option.{slice_get-map}
 use Rattle.std.specs.Prelude.{All}
 use Rattle.std.specs.List.{AllByRecursion, AllZip, flat_map}
-use Rattle.arrowtab.specs.Shape.{FieldShape}
-use Rattle.arrowtab.specs.JsonTable.{FileData}
-use Rattle.arrowtab.specs.JsonFile.{Reads}
+use Rattle.arrowtab.specs.Prelude.{Answers, AreRead, Explains, FieldShape, FileBatch, FileData, History, IsColumn, IsLoaded, IsStopped, OfJob, OrMemory, Prints, PrintsNothing, Reads, Refusal, Refuses, RefusesGroups, RunFault, added_by, batch_tables, batches_with_fields, column_text, difference, planned, table_fields}
 use Rattle.job.specs.Jobs.{text_of_query}
 use Rattle.job.specs.declared.jobs.Command.{Command}
 use Rattle.job.specs.declared.jobs.Command.TheVariants as command
@@ -13,22 +11,8 @@ use Rattle.job.specs.declared.jobs.Job.{Job}
 use Rattle.job.specs.declared.jobs.Output.{Output}
 use Rattle.job.specs.declared.jobs.Output.TheVariants as output
 use Rattle.job.specs.declared.jobs.QuerySource.{QuerySource}
-use Rattle.arrowtab.specs.Cause.{difference}
-use Rattle.arrowtab.specs.History.{History}
-use Rattle.arrowtab.specs.Plan.{planned}
 use Rattle.arrowtab.proofs.ParseLemmas.{zip_map}
-use Rattle.arrowtab.specs.FileBatches.{FileBatch, batches_with_fields, table_fields, batch_tables}
-use Rattle.arrowtab.specs.Refusal.{Refusal}
-use Rattle.arrowtab.specs.RunFault.{RunFault}
-use Rattle.arrowtab.specs.Queried.{RefusesGroups}
-use Rattle.embed.specs.Output.{AreLoadable, IsAnswered, IsExport, IsQueryRefused, IsSchema, IsStats, OfTable, StopsQuery}
-use Rattle.embed.specs.Refused.{IsBatchRefused, StopsTexts}
-use Rattle.embed.specs.Loaded.{AddsAll, added, all_batches}
-use Rattle.arrowtab.specs.Column.{IsColumn, column_text}
-use Rattle.arrowtab.specs.Loaded.{IsLoaded, IsStopped, added_by}
-use Rattle.arrowtab.specs.Output.{Prints, PrintsNothing}
-use Rattle.arrowtab.specs.Run.{Answers, AreRead, Explains, OfJob, Refuses}
-use Rattle.arrowtab.specs.OrMemory.{OrMemory}
+use Rattle.embed.specs.Prelude.{AddsAll, AreLoadable, IsAnswered, IsBatchRefused, IsExport, IsQueryRefused, IsSchema, IsStats, OfTable, StopsQuery, StopsTexts, added, all_batches}
 use Rattle.arrowtab.proofs.PlanLemmas.{all_from, all_split, by_recursion, planned_alone}
 
 module _ (fields : List FieldShape) where

@@ -1,17 +1,13 @@
 //! That the library gives what the program prints.
 ghost use Rattle.std.specs.Prelude.{◌≡◌, ℕ, List, [], None, Some, map};
-ghost use Rattle.arrowtab.specs.Column.{column_text};
-ghost use Rattle.arrowtab.specs.OrMemory.{OrMemory};
-ghost use Rattle.arrowtab.specs.Run.{Answers, Explains};
-ghost use Rattle.embed.specs.Output.{AreLoadable, IsAnswered, IsExport, IsSchema, IsStats, StopsQuery};
-ghost use Rattle.embed.specs.Refused.{StopsTexts};
+ghost use Rattle.arrowtab.specs.Prelude.{Answers, Explains, OrMemory, RunFault, column_text};
+ghost use Rattle.embed.specs.Prelude.{AreLoadable, IsAnswered, IsExport, IsSchema, IsStats, StopsQuery, StopsTexts};
 ghost use Rattle.job.specs.Jobs.{text_of_query};
 ghost use Rattle.job.specs.declared.jobs.Command.TheVariants as command;
 ghost use Rattle.job.specs.declared.jobs.Job.{Job};
 ghost use Rattle.job.specs.declared.jobs.Output.{Output};
 ghost use Rattle.job.specs.declared.jobs.Output.TheVariants as output;
 ghost use Rattle.job.specs.declared.jobs.QuerySource.{QuerySource};
-ghost use Rattle.arrowtab.specs.RunFault.{RunFault};
 
 /// What the library gives of files, from their bytes, is what the program prints of them with one worker and without a column; and
 /// what stands against it stands against that.

@@ -4,3 +4,4 @@ pub mod Line
 pub mod Memory
 pub mod Sink
 pub mod Source
+pub mod Prelude

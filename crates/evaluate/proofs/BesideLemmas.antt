@@ -8,19 +8,8 @@ use Rattle.std.specs.declared.cmp.Ordering.TheVariants.{Less, Equal, Greater}
 use Rattle.std.proofs.lemmas.Cmp.{int_cmp_total}
 use Rattle.std.proofs.lemmas.List.{get_or-replicate, length-replicate}
 use Rattle.arrays.specs.Kind as kind
-use Rattle.arrays.specs.Kind.{int64, Kind, same_int}
-use Rattle.arrays.specs.Number.{is_of_type}
-use Rattle.arrays.specs.Width.{Width}
-use Rattle.arrays.specs.Widths.{W8, W16, W32, W64}
-use Rattle.arrays.specs.Item.{Item, null, int, boolean, text, list}
-use Rattle.arrays.specs.Seen.{Seen}
-use Rattle.arrays.specs.Shown.{shown}
-use Rattle.kernels.specs.Arithmetic.{arithmetic_fault, exact, operands_fault, results}
-use Rattle.kernels.specs.Beside.{fault_from, fault_with, has_number, number_beside, number_fault}
-use Rattle.kernels.specs.Fault.{IsKernelFault, type_fault}
-use Rattle.arrays.specs.Slot.{item_at}
-use Rattle.kernels.specs.Lift.{lifted}
-use Rattle.kernels.specs.Order.{compared, meets}
+use Rattle.arrays.specs.Prelude.{Item, Kind, Seen, W16, W32, W64, W8, Width, boolean, int, int64, is_of_type, item_at, list, null, same_int, shown, text}
+use Rattle.kernels.specs.Prelude.{IsKernelFault, arithmetic_fault, compared, exact, fault_from, fault_with, has_number, lifted, meets, number_beside, number_fault, operands_fault, results, type_fault}
 use Rattle.kernels.specs.declared.comparison.CmpOp.{CmpOp}
 use Rattle.kernels.specs.declared.comparison.CmpOp.TheVariants as cmp
 use Rattle.kernels.specs.declared.fault.KernelFault.{KernelFault}
@@ -36,8 +25,7 @@ use Rattle.query.specs.declared.sort.Sort.TheVariants.{Int, Literal, Text, Truth
 use Rattle.evaluate.proofs.PlaceLemmas.{IsPlaced, binary_placed, one_length}
 use Rattle.evaluate.proofs.SortLemmas.{one_int}
 use Rattle.evaluate.proofs.OperatorLemmas.{comparison_value, left_fits, number_fits, no_type_fault, results_fit, results_made, results_stop, truth_made}
-use Rattle.evaluate.specs.Making.{AreMade, StopsMaking, comparison_of, bounded_by, in_order, is_of_operands, stop_of, turned}
-use Rattle.evaluate.specs.Value.{comparison, of_two}
+use Rattle.evaluate.specs.Prelude.{AreMade, StopsMaking, bounded_by, comparison, comparison_of, in_order, is_of_operands, of_two, stop_of, turned}
 use Rattle.evaluate.specs.declared.stop.Stop as stop
 use Rattle.evaluate.specs.declared.stop.Stop.TheVariants as stops
 use Rattle.evaluate.specs.declared.values.Operand.TheVariants.{Made}

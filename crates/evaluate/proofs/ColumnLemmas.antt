@@ -7,22 +7,16 @@ use Rattle.std.proofs.lemmas.Bool.{eqb-true, ltb-false}
 use Rattle.std.proofs.lemmas.List.{get_or-map}
 use Rattle.std.proofs.lemmas.Option.{slice_get-get_or, slice_get_within}
 use Rattle.arrays.proofs.ChildLemmas.{same_kinds}
-use Rattle.arrays.specs.Batch.{Batch, bad_length, batch_fault, differing_length, differing_type, row_of}
+use Rattle.arrays.specs.Prelude.{Batch, FieldShape, Item, Seen, bad_length, batch_fault, differing_length, differing_type, field, kind_of_field, most_slots, null, row_of, same_kind, slice}
 use Rattle.arrays.specs.declared.batch.BatchFault.TheVariants.{ColumnCount, LengthsDiffer, TypeDiffers}
-use Rattle.arrays.specs.Item.{Item, null}
-use Rattle.arrays.specs.Seen.{Seen}
-use Rattle.arrays.specs.Kind.{same_kind}
-use Rattle.arrays.specs.Shape.{FieldShape, boolean, field, kind_of_field}
-use Rattle.arrays.specs.Slice.{slice}
+use Rattle.arrays.specs.Shape.{boolean}
 use Rattle.std.proofs.lemmas.Grind.{common_steps}
 use Rattle.evaluate.specs.Making.{IsColumn}
 use Rattle.evaluate.specs.declared.values.Operand.TheVariants.{Borrowed}
 use Rattle.evaluate.specs.declared.values.Slots.{Slots}
-use Rattle.query.specs.CalledColumns.{sort_at, sort_of_field}
-use Rattle.query.specs.Sorts.{sort_of_kind}
+use Rattle.query.specs.Prelude.{sort_at, sort_of_field, sort_of_kind}
 use Rattle.evaluate.proofs.PlaceLemmas.{all_before}
 use Rattle.std.proofs.lemmas.List.Sums.{fails_before_first}
-use Rattle.arrays.specs.Limits.{most_slots}
 
 -- ---- what no fault means
 

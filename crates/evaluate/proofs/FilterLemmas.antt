@@ -1,8 +1,7 @@
 -- The filter of a query that fits.
 use Rattle.std.proofs.Common.{◌≡◌, ◌&&◌, Bool, true, false, Option, Some, None, Result, Ok, Err, refl}
 use Rattle.std.specs.Prelude.{is_none}
-use Rattle.query.specs.FirstFault.{fault_unless}
-use Rattle.query.specs.Sorts.{is_truth}
+use Rattle.query.specs.Prelude.{fault_unless, is_truth}
 use Rattle.query.specs.declared.fault.QueryFault.{QueryFault}
 use Rattle.query.specs.declared.sort.Sort.{Sort}
 use Rattle.query.specs.declared.sort.Sort.TheVariants as sort

@@ -1,25 +1,12 @@
 -- What operators make of columns.
 use Rattle.std.proofs.Common.{◌≡◌, ◌∙◌, ℕ, ◌&&◌, ℤ, List, map, length, Bool, true, false, not, cond, eqb, is_some, replicate, zero-add, Option, Some, None, Result, Ok, Err, IfErr, IfOk, ap, sym, refl, subst, true≢false, eq-eqb, inl, inr}
-use Rattle.arrays.specs.Item.{Item, null, int, boolean, text, list, is_null}
-use Rattle.arrays.specs.Slot.{holds_at, item_at}
-use Rattle.arrays.specs.Number.{is_of_type}
-use Rattle.arrays.specs.IntType.{IntType}
-use Rattle.kernels.specs.Truth.{truth_at, truths_of}
+use Rattle.arrays.specs.Prelude.{IntType, Item, Kind, Seen, boolean, holds_at, int, int64, is_null, is_of_type, item_at, list, null, order, same_kind, shown, text}
+use Rattle.kernels.specs.Prelude.{IsKernelFault, are_comparable, arithmetic_fault, compared, comparison_fault, conjunction, disjunction, exact, lifted, meets, negation, nulls, operands_fault, results, truth_at, truth_fault, truths_fault, truths_of}
 use Rattle.std.proofs.lemmas.List.{length-replicate, get_or-replicate}
 use Rattle.std.specs.List.{range_with_len}
 use Rattle.std.proofs.lemmas.List.FromFn.{get_or-map-range_with_len, length-map-range_with_len}
 use Rattle.std.specs.Prelude.{option_and_then}
-use Rattle.arrays.specs.Seen.{Seen}
-use Rattle.arrays.specs.Shown.{shown}
 use Rattle.arrays.specs.Kind as kind
-use Rattle.arrays.specs.Kind.{Kind, same_kind, int64}
-use Rattle.kernels.specs.Arithmetic.{arithmetic_fault, exact, operands_fault, results}
-use Rattle.kernels.specs.Fault.{IsKernelFault}
-use Rattle.kernels.specs.Kleene.{conjunction, disjunction, negation, truth_fault, truths_fault}
-use Rattle.kernels.specs.Lift.{lifted}
-use Rattle.kernels.specs.Nulls.{nulls}
-use Rattle.arrays.specs.Order.{order}
-use Rattle.kernels.specs.Order.{are_comparable, compared, comparison_fault, meets}
 use Rattle.kernels.specs.declared.comparison.CmpOp.{CmpOp}
 use Rattle.kernels.specs.declared.comparison.CmpOp.TheVariants as cmp
 use Rattle.kernels.specs.declared.fault.KernelFault.{KernelFault}
@@ -33,8 +20,7 @@ use Rattle.query.specs.declared.sort.Sort.{Sort}
 use Rattle.query.specs.declared.sort.Sort.TheVariants.{Int, Literal, Text, Truth}
 use Rattle.evaluate.proofs.PlaceLemmas.{IsPlaced, IsPlacedIn, StopsOutside, binary_placed, exact_placed, sole_fault, sole_row, unary_placed}
 use Rattle.evaluate.proofs.SortLemmas.{comparable, one_int, truths}
-use Rattle.evaluate.specs.Making.{AreMade, Gives, StopsMaking, comparison_of, bounded_by, in_order, is_of_operands, stop_of, values_of}
-use Rattle.evaluate.specs.Value.{comparison, of_one, of_two}
+use Rattle.evaluate.specs.Prelude.{AreMade, Gives, StopsMaking, bounded_by, comparison, comparison_of, in_order, is_of_operands, of_one, of_two, stop_of, values_of}
 use Rattle.evaluate.specs.declared.stop.Stop as stop
 use Rattle.evaluate.specs.declared.stop.Stop.TheVariants as stops
 use Rattle.evaluate.specs.declared.values.Operand.TheVariants.{Made}

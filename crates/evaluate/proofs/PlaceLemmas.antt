@@ -8,21 +8,13 @@ use Rattle.std.proofs.lemmas.List.{get_or-map, length-map}
 use Rattle.std.proofs.lemmas.List.FromFn.{get_or-map-range_with_len, length-map-range_with_len}
 use Rattle.std.proofs.lemmas.List.Quantifiers.{position-Some}
 use Rattle.std.proofs.lemmas.List.Sums.{fails_before_first}
-use Rattle.arrays.specs.IntType.{IntType}
+use Rattle.arrays.specs.Prelude.{IntType, Item, Kind, Seen, item_at, null, shown}
 use Rattle.arrays.specs.Kind as kind
-use Rattle.arrays.specs.Kind.{Kind}
-use Rattle.arrays.specs.Item.{Item, null}
-use Rattle.arrays.specs.Seen.{Seen}
-use Rattle.arrays.specs.Shown.{shown}
-use Rattle.kernels.specs.Arithmetic.{are_one_int, arithmetic_fault, exact, first_bad, is_outside, operands_fault, results}
-use Rattle.kernels.specs.Fault.{IsKernelFault}
-use Rattle.arrays.specs.Slot.{item_at}
-use Rattle.kernels.specs.Lift.{at_each_place, lifted}
+use Rattle.kernels.specs.Prelude.{IsKernelFault, are_one_int, arithmetic_fault, at_each_place, exact, first_bad, is_outside, lifted, operands_fault, results}
 use Rattle.kernels.specs.declared.fault.KernelFault.{KernelFault}
 use Rattle.kernels.specs.declared.fault.KernelFault.TheVariants.{LengthsDiffer, NoMemory, Overflow, TypesDiffer}
 use Rattle.query.specs.Sorts.{sort_of_kind}
-use Rattle.evaluate.specs.Making.{is_of_operands, stop_of}
-use Rattle.evaluate.specs.Value.{bounded}
+use Rattle.evaluate.specs.Prelude.{bounded, is_of_operands, stop_of}
 use Rattle.evaluate.specs.declared.stop.Stop.{Stop}
 use Rattle.evaluate.specs.declared.stop.Stop.TheVariants as stop
 

@@ -1,19 +1,13 @@
 -- The columns and the rows of lawful batches.
 use Rattle.std.proofs.Common.{◌≡◌, ◌∙◌, ℕ, [], length, get_or, Bool, true, false, cond, is_ok, Some, None, Result, Ok, Err, ap, sym, refl}
 use Rattle.std.specs.Prelude.{slice_index_or}
-use Rattle.arrays.specs.Batch.{Batch, batch_fault}
-use Rattle.arrays.specs.Item.{null}
+use Rattle.arrays.specs.Prelude.{Batch, FieldShape, Kind, Seen, batch_fault, field, is_list, kind_of_field, null}
 use Rattle.arrays.specs.Kind as kind
-use Rattle.arrays.specs.Kind.{Kind}
-use Rattle.arrays.specs.Slot.{is_list}
-use Rattle.arrays.specs.Shape.{FieldShape, boolean, field, kind_of_field}
-use Rattle.query.specs.CalledColumns.{sort_at}
-use Rattle.query.specs.FirstFault.{fault_unless}
-use Rattle.query.specs.Sorts.{is_plain, sort_of_kind}
+use Rattle.arrays.specs.Shape.{boolean}
+use Rattle.query.specs.Prelude.{fault_unless, is_plain, sort_at, sort_of_kind}
 use Rattle.query.specs.declared.fault.QueryFault.{QueryFault}
 use Rattle.query.specs.declared.fault.QueryFault.TheVariants.{WrongKind}
 use Rattle.query.specs.declared.sort.Sort.{Sort}
-use Rattle.arrays.specs.Seen.{Seen}
 use Rattle.evaluate.proofs.ColumnLemmas.{whole, field_there, sort_there, row_item, place_within}
 use Rattle.evaluate.specs.Rows.{kind_at, HasColumn}
 use Rattle.std.proofs.lemmas.List.{get_or-map}

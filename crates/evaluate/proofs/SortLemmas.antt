@@ -1,9 +1,8 @@
 -- The sorts of columns and what kernels ask of their kinds.
 use Rattle.std.proofs.Common.{◌≡◌, Bool, true, false, is_some, cond, Some, None, refl, sym, true≢false}
 use Rattle.arrays.specs.Kind as kind
-use Rattle.arrays.specs.Kind.{Kind, same_kind}
-use Rattle.kernels.specs.Arithmetic.{are_one_int}
-use Rattle.kernels.specs.Order.{are_comparable}
+use Rattle.arrays.specs.Prelude.{Kind, same_kind}
+use Rattle.kernels.specs.Prelude.{are_comparable, are_one_int}
 use Rattle.query.specs.Sorts.{arithmetic, comparison, is_truth, junction, sort_of_kind}
 use Rattle.query.specs.declared.sort.Sort.{Sort}
 

@@ -2,23 +2,16 @@
 use Rattle.std.proofs.Common.{◌≡◌, ◌≢◌, ◌∙◌, ℕ, List, [], ◌∷◌, map, length, get_or, true, is_some, is_ok, Option, Some, None, Result, Ok, Err, IfOk, IfErr, IsErrAnd, ap, ap₂, sym, subst, refl, true≢false, arith}
 use Rattle.std.specs.Prelude.{option_and_then}
 use Rattle.std.specs.Option.{ok_or}
-use Rattle.arrays.specs.Batch.{Batch, Row}
-use Rattle.arrays.specs.Item.{Item}
-use Rattle.arrays.specs.Shape.{FieldShape}
-use Rattle.query.specs.Checked.{all_checked, and_then, checked, sort_of_operator}
-use Rattle.query.specs.CalledColumns.{sort_at}
-use Rattle.query.specs.Sorts.{sort_of_one, sort_of_two}
+use Rattle.arrays.specs.Prelude.{Batch, FieldShape, Item, Row}
+use Rattle.query.specs.Prelude.{Tree, all_checked, and_then, checked, none, one, op, sort_at, sort_of_one, sort_of_operator, sort_of_two, tree_of, trees}
 use Rattle.std.specs.declared.vec.Vec.{Vec}
 use Rattle.std.specs.declared.alloc.Global.{Global}
 use Rattle.query.specs.declared.expr.Expr.{Expr}
-use Rattle.query.specs.Tree.{Tree, op, none, one, tree_of, trees}
 use Rattle.query.specs.declared.expr.Op.{Op}
 use Rattle.query.specs.declared.fault.QueryFault.{QueryFault}
 use Rattle.query.specs.declared.fault.QueryFault.TheVariants.{WrongKind}
 use Rattle.query.specs.declared.sort.Sort.{Sort}
-use Rattle.evaluate.specs.Making.{AreMade, StopsAt, StopsMaking, bounded_by}
-use Rattle.evaluate.specs.Slices.{AreValues, item_in, row_in, sort_in}
-use Rattle.evaluate.specs.Value.{bounded_in, of_one, of_operands, of_two, value}
+use Rattle.evaluate.specs.Prelude.{AreMade, AreValues, StopsAt, StopsMaking, bounded_by, bounded_in, item_in, of_one, of_operands, of_two, row_in, sort_in, value}
 use Rattle.evaluate.specs.declared.stop.Stop.{Stop}
 use Rattle.evaluate.specs.declared.stop.Stop.TheVariants.{Bad, NoMemory}
 use Rattle.evaluate.specs.declared.values.Values.{Values}

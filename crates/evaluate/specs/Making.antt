@@ -1,9 +1,6 @@
 -- Values in the making: what operators make of their operands, and what they stop with.
 use Rattle.std.specs.Prelude.{◌≡◌, ℕ, ◌<◌, Bool, true, false, length, Option, Some, None, Result, Ok, Err, IfOk, IfErr, slice_index_or, ⊤}
-use Rattle.arrays.specs.Batch.{Batch}
-use Rattle.arrays.specs.Item.{Item, null}
-use Rattle.arrays.specs.Seen.{Seen}
-use Rattle.arrays.specs.Slot.{item_at}
+use Rattle.arrays.specs.Prelude.{Batch, Item, Seen, item_at, null}
 use Rattle.kernels.specs.declared.comparison.CmpOp.{CmpOp}
 use Rattle.kernels.specs.declared.comparison.CmpOp.TheVariants as cmp
 use Rattle.kernels.specs.declared.fault.KernelFault.{KernelFault}
@@ -11,9 +8,7 @@ use Rattle.kernels.specs.declared.fault.KernelFault.TheVariants as fault
 use Rattle.kernels.specs.declared.fault.KernelFault.TheVariants.{LengthsDiffer, Overflow, TypesDiffer}
 use Rattle.query.specs.declared.expr.Op.{Op}
 use Rattle.query.specs.declared.expr.Op.TheVariants as op
-use Rattle.query.specs.CalledColumns.{sort_at}
-use Rattle.query.specs.Sorts.{sort_of_kind}
-use Rattle.query.specs.Tree.{Tree}
+use Rattle.query.specs.Prelude.{Tree, sort_at, sort_of_kind}
 use Rattle.query.specs.declared.sort.Sort.{Sort}
 use Rattle.evaluate.specs.Slices.{AreEnough, column_of, item_in, row_in, sort_in}
 use Rattle.evaluate.specs.Value.{bounded, value}

@@ -1,13 +1,8 @@
 -- The rows of a batch, and the column that their items come from.
 use Rattle.std.specs.Prelude.{◌≡◌, ◌<◌, ℕ, Ok, length, slice_index_or, List, map}
-use Rattle.arrays.specs.Batch.{Batch, row_of}
-use Rattle.arrays.specs.Item.{null}
-use Rattle.arrays.specs.Seen.{Seen}
-use Rattle.query.specs.CalledColumns.{sort_at}
-use Rattle.query.specs.Sorts.{sort_of_kind}
+use Rattle.arrays.specs.Prelude.{Batch, FieldShape, Kind, Seen, kind_of_field, null, row_of}
+use Rattle.query.specs.Prelude.{sort_at, sort_of_kind}
 use Rattle.arrays.specs.Kind as kind
-use Rattle.arrays.specs.Kind.{Kind}
-use Rattle.arrays.specs.Shape.{FieldShape, kind_of_field}
 
 -- The column is of the sort of its field, with an item for each row.
 pub record HasColumn (b : Batch) (place : ℕ) (c : Seen) : Type 0 where

@@ -1,14 +1,8 @@
 -- What an expression is at the rows of a slice of a batch.
 use Rattle.std.specs.Prelude.{◌≡◌, ℕ, ◌+◌, ◌<◌, true, length, Option, Some, None, Ok, is_some, ⊤}
-use Rattle.arrays.specs.Batch.{Batch, Row, row_of}
+use Rattle.arrays.specs.Prelude.{Batch, Item, Row, Seen, item_at, part, row_of}
 use Rattle.arrays.specs.Item as item
-use Rattle.arrays.specs.Item.{Item}
-use Rattle.arrays.specs.Seen.{Seen, part}
-use Rattle.arrays.specs.Slot.{item_at}
-use Rattle.query.specs.Checked.{checked}
-use Rattle.query.specs.CalledColumns.{sort_at}
-use Rattle.query.specs.Sorts.{sort_of_kind}
-use Rattle.query.specs.Tree.{Tree}
+use Rattle.query.specs.Prelude.{Tree, checked, sort_at, sort_of_kind}
 use Rattle.query.specs.declared.sort.Sort.{Sort}
 use Rattle.query.specs.declared.sort.Sort.TheVariants as sort
 use Rattle.evaluate.specs.Value.{value}

@@ -1,15 +1,8 @@
 -- The value of an expression at a row: numbers exactly, truth values as Kleene's logic has them, null where an operand is null.
 use Rattle.std.specs.Prelude.{ℕ, ◌+ℤ◌, ◌-ℤ◌, ◌*ℤ◌, List, [], ◌∷◌, not, if◌then◌else◌, Option, Some, None, option_map, option_and_then, slice_index_or, Result, Ok, Err}
-use Rattle.arrays.specs.Batch.{Row}
+use Rattle.arrays.specs.Prelude.{FieldShape, Item, Row, is_null, item_of_bool, null, order}
 use Rattle.arrays.specs.Item as item
-use Rattle.arrays.specs.Item.{Item, null, is_null}
-use Rattle.arrays.specs.Slot.{item_of_bool}
-use Rattle.arrays.specs.Shape.{FieldShape}
-use Rattle.kernels.specs.Arithmetic.{exact, is_outside}
-use Rattle.kernels.specs.Kleene.{and_known, or_known, truth_of}
-use Rattle.kernels.specs.Lift.{lifted}
-use Rattle.arrays.specs.Order.{order}
-use Rattle.kernels.specs.Order.{meets}
+use Rattle.kernels.specs.Prelude.{and_known, exact, is_outside, lifted, meets, or_known, truth_of}
 use Rattle.kernels.specs.declared.comparison.CmpOp.{CmpOp}
 use Rattle.kernels.specs.declared.comparison.CmpOp.TheVariants as cmp
 use Rattle.query.specs.declared.expr.Op.{Op}
@@ -17,10 +10,8 @@ use Rattle.query.specs.declared.expr.Op.TheVariants as op
 use Rattle.query.specs.declared.fault.QueryFault.{QueryFault}
 use Rattle.query.specs.declared.sort.Sort.{Sort}
 use Rattle.query.specs.declared.sort.Sort.TheVariants.{Int}
-use Rattle.query.specs.Checked.{checked}
-use Rattle.query.specs.CalledColumns.{sort_at}
+use Rattle.query.specs.Prelude.{Tree, Trees, checked, sort_at}
 use Rattle.query.specs.Tree as tree
-use Rattle.query.specs.Tree.{Tree, Trees}
 
 -- ---- operators
 

@@ -2,10 +2,8 @@
 
 ghost use Rattle.std.specs.Prelude.{◌≡◌, ◌≤◌, IfOk, replicate};
 ghost use Rattle.arrays.specs.Kind as kind;
-ghost use Rattle.arrays.specs.Number.{IsOfType};
+ghost use Rattle.arrays.specs.Prelude.{IsOfType, most_slots, shown};
 ghost use Rattle.arrays.specs.Item as item;
-ghost use Rattle.arrays.specs.Shown.{shown};
-ghost use Rattle.arrays.specs.Limits.{most_slots};
 
 use arrays::{Array, BoolBuilder, IntBuilder, IntType, NoMemory};
 use std::alloc::Global;

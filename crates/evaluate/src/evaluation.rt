@@ -1,9 +1,7 @@
 //! Expressions at the rows of a slice.
 
 ghost use Rattle.std.specs.Prelude.{◌≡◌, true, is_ok, IfOk, IfErr};
-ghost use Rattle.query.specs.Checked.{checked};
-ghost use Rattle.query.specs.CalledColumns.{sort_at};
-ghost use Rattle.query.specs.Tree.{tree_of};
+ghost use Rattle.query.specs.Prelude.{checked, sort_at, tree_of};
 ghost use Rattle.evaluate.specs.Making.{IsColumn, StopsAt};
 ghost use Rattle.evaluate.specs.Slices.{AreValues};
 

@@ -1,11 +1,7 @@
 //! Filters at the rows of a slice, and the least row where one is bad.
 
 ghost use Rattle.std.specs.Prelude.{◌≡◌, ◌<◌, true, None, is_ok, IfOk, IfErr};
-ghost use Rattle.query.specs.QueryShape.{query_shape};
-ghost use Rattle.query.specs.Checked.{checked};
-ghost use Rattle.query.specs.CalledColumns.{sort_at};
-ghost use Rattle.query.specs.FirstFault.{fits};
-ghost use Rattle.query.specs.Tree.{tree_of};
+ghost use Rattle.query.specs.Prelude.{checked, fits, query_shape, sort_at, tree_of};
 ghost use Rattle.evaluate.specs.Value.{value};
 ghost use Rattle.evaluate.specs.Slices.{AreFilterValues, AreValues, IsFilterStop, IsLeastStop, row_in};
 

@@ -2,14 +2,13 @@
 
 ghost use Rattle.std.specs.Prelude.{◌≡◌, ◌≤◌, true, is_some, length, IfOk, IfErr};
 ghost use Rattle.arrays.specs.Item as item;
-ghost use Rattle.arrays.specs.Slot.{item_at};
+ghost use Rattle.arrays.specs.Prelude.{item_at, most_slots};
 ghost use Rattle.query.specs.Sorts as sorts;
 ghost use Rattle.query.specs.declared.sort.Sort.TheVariants as sort;
 ghost use Rattle.query.specs.Sorts.{sort_of_kind, sort_of_one, sort_of_two};
 ghost use Rattle.evaluate.specs.Value.{of_one, of_two};
 ghost use Rattle.evaluate.specs.Making.{AreMade, StopsMaking};
 ghost use Rattle.evaluate.specs.Slices.{AreEnough, column_of, item_in, sort_in};
-ghost use Rattle.arrays.specs.Limits.{most_slots};
 
 use crate::constant::{repeated_number, repeated_truth};
 use crate::stop::Stop;

@@ -1,7 +1,7 @@
 //! Neighbouring rows of a batch.
 
 ghost use Rattle.std.specs.Prelude.{◌+◌, ◌≤◌};
-ghost use Rattle.arrays.specs.Limits.{most_slots};
+ghost use Rattle.arrays.specs.Prelude.{most_slots};
 
 use arrays::RecordBatch;
 

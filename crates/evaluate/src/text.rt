@@ -2,14 +2,12 @@
 
 ghost use Rattle.std.specs.Prelude.{◌≡◌, ◌≤◌, true, is_some, length, Some, IfOk, IfErr};
 ghost use Rattle.arrays.specs.Item as item;
-ghost use Rattle.arrays.specs.Slot.{is_text, item_at};
-ghost use Rattle.arrays.specs.Order.{order};
+ghost use Rattle.arrays.specs.Prelude.{is_text, item_at, most_slots, order};
 ghost use Rattle.kernels.specs.Order.{meets};
 ghost use Rattle.query.specs.Sorts.{sort_of_kind, sort_of_two};
 ghost use Rattle.query.specs.declared.sort.Sort.TheVariants as sort;
 ghost use Rattle.evaluate.specs.Value.{of_two};
 ghost use Rattle.evaluate.specs.Making.{AreMade, in_order};
-ghost use Rattle.arrays.specs.Limits.{most_slots};
 
 use crate::columns::comparison_of;
 use crate::constant::repeated_truth;

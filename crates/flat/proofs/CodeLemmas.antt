@@ -1,9 +1,7 @@
 -- Indices of a dictionary as codes.
 use Rattle.std.proofs.Common.{◌≡◌, ◌∙◌, ◌+◌, ℕ, zero, suc, ℤ, List, ◌++◌, ap, append_assoc, append-nil, sym, arith}
 use Rattle.std.specs.List.{flat_map, range_with_len}
-use Rattle.arrays.specs.IntType.{IntType}
-use Rattle.arrays.specs.Kind.{int32}
-use Rattle.arrays.specs.Number.{bytes_of_number, number_at}
+use Rattle.arrays.specs.Prelude.{IntType, bytes_of_number, int32, number_at}
 use Rattle.flat.specs.Parts.{code}
 
 flat_map_range_more : (f : ℕ → List ℕ) (a n j : ℕ) → a + n ≡ j → flat_map f (range_with_len a (n + 1)) ≡ flat_map f (range_with_len a n) ++ f j

@@ -1,14 +1,8 @@
 -- What a field's parts are, by its kind.
 use Rattle.std.proofs.Common.{◌≡◌, ◌∙◌, ℕ, List, ◌∷◌, Some, None, ap, sym}
-use Rattle.arrays.specs.Reading.{Reading}
-use Rattle.arrays.specs.Seen.{Seen}
-use Rattle.arrays.specs.LayoutFault.{LayoutFault}
-use Rattle.arrays.specs.Kind.{kind_of}
-use Rattle.arrays.specs.Shape.{field_of, kind_of_field}
-use Rattle.arrays.specs.Field.{Field, out-Field}
+use Rattle.arrays.specs.Prelude.{Field, LayoutFault, Reading, Seen, field_of, kind_of, kind_of_field, out-Field}
 use Rattle.arrays.proofs.ShapeLemmas.{kind_of_field-field_of}
-use Rattle.flat.specs.Batch.{IsColumn, StopsArray}
-use Rattle.flat.specs.Parts.{read_column}
+use Rattle.flat.specs.Prelude.{IsColumn, StopsArray, read_column}
 use Rattle.flat.specs.declared.fault.FlatFault.{FlatFault}
 use Rattle.flat.specs.declared.fault.FlatFault.TheVariants.{Layout}
 use Rattle.flat.specs.declared.node.Node.{Node}

@@ -3,7 +3,7 @@ use Rattle.std.proofs.Common.{◌≡◌, ℕ, List, ◌∷◌, Bool, true, false
 use Rattle.std.specs.Bool.{then_some}
 use Rattle.std.specs.Str.{IsUtf8, is_utf8}
 use Rattle.std.proofs.lemmas.Str.{IsUtf8-from_is_utf8, is_utf8-from_IsUtf8}
-use Rattle.arrays.specs.First.{first}
+use Rattle.arrays.specs.Prelude.{first}
 use Rattle.flat.specs.Content.{content_faults, node_fault}
 use Rattle.flat.specs.declared.fault.FlatFault.TheVariants.{NameNotUtf8}
 use Rattle.flat.specs.declared.node.Node.{Node}

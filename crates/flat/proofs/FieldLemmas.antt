@@ -1,15 +1,9 @@
 -- The columns that nodes begin with.
 use Rattle.std.proofs.Common.{◌≡◌, ◌∙◌, ◌+◌, ◌-◌, ℕ, zero, suc, List, [], ◌∷◌, Some, None, Bool, true, false, not, ap, drop, inl, inr, refl, subst, sym, arith}
 use Rattle.std.specs.Bool.{then_some}
-use Rattle.arrays.specs.DataType.{DataType, fold_out-DataType, map-DataType}
-use Rattle.arrays.specs.DataTypes.{Dict, outs-Dict}
-use Rattle.arrays.specs.Field.{Field}
-use Rattle.arrays.specs.IntType.{IntType}
-use Rattle.arrays.specs.OffsetWidth.{OffsetWidth}
+use Rattle.arrays.specs.Prelude.{DataType, Dict, Field, FieldShape, IntType, OffsetWidth, Shape, field_of, field_step, fold_out-DataType, map-DataType, outs-Dict, shape_of, shape_step}
 use Rattle.arrays.specs.Shape as shape
-use Rattle.arrays.specs.Shape.{FieldShape, Shape, field_of, field_step, shape_of, shape_step}
-use Rattle.flat.specs.Content.{content_of}
-use Rattle.flat.specs.Fields.{Begins, IsCoded, dictionary_fault, field_named, is_dictionary}
+use Rattle.flat.specs.Prelude.{Begins, IsCoded, content_of, dictionary_fault, field_named, is_dictionary}
 use Rattle.flat.specs.declared.content.Content.TheVariants as content
 use Rattle.flat.specs.declared.fault.FlatFault.TheVariants.{ChildrenDiffer}
 use Rattle.flat.specs.declared.node.Node.{Node}

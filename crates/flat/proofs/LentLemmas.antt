@@ -9,36 +9,17 @@ use Rattle.std.specs.Prelude.{is_none, ◌==◌, ◌⊎◌}
 use Rattle.std.specs.declared.alloc.Global.{Global}
 use Rattle.std.specs.declared.boxed.Box.{Box}
 use Rattle.arrays.proofs.BatchLemmas.{kinds, whole}
-use Rattle.arrays.specs.Batch.{Batch, batch_fault}
-use Rattle.arrays.specs.Lent.{read_lent}
+use Rattle.arrays.specs.Prelude.{Batch, Buffers, DataType, Dict, Field, FieldShape, Int, IntType, Kind, LargeList', LargeUtf8, List', Narrow, OffsetWidth, RawArray, Reading, Seen, Shape, Utf8, Wide, batch_fault, checked, checked_texts, child_fault, depth, dictionary_fault, do_parts_differ, field, field_of, field_step, fields_of, fold-Field, fold_out-DataType, fold_out-Field, inner_of, int32, is_no_child, is_nullable, kind_of, kind_of_field, kind_step, map-DataType, name_of, out-Field, out-RawArray, outs-Dict, outs-LargeList', outs-List', own_fault, read_checked, read_lent, read_parts, reading, shape_of, shape_step}
 use Rattle.arrays.specs.declared.lent.LentParts.{LentParts}
 use Rattle.arrays.proofs.ChildLemmas.{MakesArray-plain, OneChild, only_child}
 use Rattle.arrays.proofs.FirstFaultLemmas.{own_fault-none, reading-raw}
 use Rattle.arrays.proofs.LawfulLemmas.{checked-reading, either_false, first-parts, no_dictionary, none_present, parts_agree, reading-again, text_alone}
-use Rattle.arrays.specs.Checked.{checked, checked_texts, read_checked}
-use Rattle.arrays.specs.Fault.{do_parts_differ, is_no_child, own_fault}
-use Rattle.arrays.specs.RawArray.{RawArray, out-RawArray}
-use Rattle.arrays.specs.Layout.{Buffers}
-use Rattle.arrays.specs.Reading.{Reading, child_fault, dictionary_fault, inner_of, read_parts, reading}
-use Rattle.arrays.specs.Seen.{Seen}
 use Rattle.arrays.specs.Kind as kind
-use Rattle.arrays.specs.Kind.{Kind, depth, int32, kind_of, kind_step}
 use Rattle.arrays.specs.Shape as shape
-use Rattle.arrays.specs.Shape.{FieldShape, Shape, field, field_of, field_step, fields_of, is_nullable, kind_of_field, name_of, shape_of, shape_step}
-use Rattle.arrays.specs.DataType.{DataType, fold_out-DataType, map-DataType}
 use Rattle.arrays.specs.DataTypes as variant
-use Rattle.arrays.specs.DataTypes.{Dict, Int, LargeList', LargeUtf8, List', Utf8, outs-Dict, outs-LargeList', outs-List'}
-use Rattle.arrays.specs.IntType.{IntType}
 use Rattle.arrays.specs.DataTypeViews as types
 use Rattle.arrays.proofs.ShapeLemmas.{kind_of-Bool, kind_of-Int, kind_of-LargeUtf8, kind_of-Utf8, kind_of_field-field_of}
-use Rattle.arrays.specs.Field.{Field, fold-Field, fold_out-Field, out-Field}
-use Rattle.arrays.specs.OffsetWidth.{OffsetWidth}
-use Rattle.arrays.specs.OffsetWidths.{Narrow, Wide}
-use Rattle.flat.specs.Fields.{Begins, field_named, is_dictionary, shape_alone}
-use Rattle.flat.specs.Content.{content_of}
-use Rattle.flat.specs.Lent.{ArePushed, IsNodeOver, IsOver, IsTextPushed, Lends, LendsColumn, LendsColumns, content_of_kind}
-use Rattle.flat.specs.Schema.{most_levels}
-use Rattle.flat.specs.Parts.{stated}
+use Rattle.flat.specs.Prelude.{ArePushed, Begins, IsNodeOver, IsOver, IsTextPushed, Lends, LendsColumn, LendsColumns, content_of, content_of_kind, field_named, is_dictionary, most_levels, shape_alone, stated}
 use Rattle.flat.specs.declared.node.Node.{Node}
 
 -- a node over buffers is one over what they are read as

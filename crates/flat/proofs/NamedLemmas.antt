@@ -6,17 +6,10 @@ use Rattle.std.proofs.lemmas.Map.Keys.{any_passes_from_place}
 use Rattle.std.proofs.lemmas.Option.{get_or_from_slice_get, slice_get_within}
 use Rattle.std.specs.Option.{option_or}
 use Rattle.arrays.proofs.BatchLemmas.{among-missing}
-use Rattle.arrays.specs.Layout.{Buffers}
+use Rattle.arrays.specs.Prelude.{Buffers, DictInList, Field, FieldShape, Kind, OffsetWidth, Shape, TooDeep, depth, field, field_of, fields_of, holds_dict, is_deep, is_nullable, kind_of_field, name_of, schema_fault}
 use Rattle.arrays.specs.Kind as kind
-use Rattle.arrays.specs.Kind.{Kind, depth}
-use Rattle.arrays.specs.Schema.{holds_dict, is_deep, schema_fault}
 use Rattle.arrays.specs.Shape as shape
-use Rattle.arrays.specs.Field.{Field}
-use Rattle.arrays.specs.Shape.{FieldShape, Shape, field, field_of, fields_of, is_nullable, kind_of_field, name_of}
-use Rattle.arrays.specs.OffsetWidth.{OffsetWidth}
-use Rattle.arrays.specs.SchemaFaults.{DictInList, TooDeep}
-use Rattle.flat.specs.Named.{AreNamed, AreTextsNamed}
-use Rattle.flat.specs.Schema.{Names, most_levels}
+use Rattle.flat.specs.Prelude.{AreNamed, AreTextsNamed, Names, most_levels}
 use Rattle.flat.specs.declared.node.Node.{Node}
 use Rattle.flat.proofs.LentLemmas.{IsHeadOf, alone_begins, codes_begin, is_alone, lists_begin}
 use Rattle.flat.proofs.RowLemmas.{names_more}

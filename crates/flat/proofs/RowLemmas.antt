@@ -2,11 +2,8 @@
 use Rattle.std.proofs.Common.{◌≡◌, ◌∙◌, ◌+◌, ◌-◌, ◌<◌, ◌≤◌, ◌++◌, ℕ, List, [], ◌∷◌, ap, arith, drop, inr, length, refl, subst, sym, take}
 use Rattle.std.proofs.lemmas.List.{drop-drop, length-drop}
 use Rattle.std.proofs.Math.Seq.{take-length}
-use Rattle.arrays.specs.Seen.{Seen}
-use Rattle.arrays.specs.Shape.{FieldShape}
-use Rattle.flat.specs.Fields.{Begins, Stops}
-use Rattle.flat.specs.Schema.{Names, StopsFields, most_levels}
-use Rattle.flat.specs.Batch.{IsColumn, StopsArray, StopsColumn, StopsColumns, Takes}
+use Rattle.arrays.specs.Prelude.{FieldShape, Seen}
+use Rattle.flat.specs.Prelude.{Begins, IsColumn, Names, Stops, StopsArray, StopsColumn, StopsColumns, StopsFields, Takes, most_levels}
 use Rattle.flat.specs.declared.fault.FlatFault.{FlatFault}
 use Rattle.flat.specs.declared.node.Node.{Node}
 

@@ -2,18 +2,9 @@
 use Rattle.std.proofs.Common.{◌≡◌, ◌∙◌, ℕ, zero, suc, List, [], ◌∷◌, Option, Some, None, ap, drop, inl, inr, refl, subst, sym}
 use Rattle.std.specs.Prelude.{unwrap_or}
 use Rattle.std.specs.Option.{option_and_then}
-use Rattle.arrays.specs.Batch.{Batch}
-use Rattle.arrays.specs.Seen.{Seen}
-use Rattle.arrays.specs.IntType.{IntType}
-use Rattle.arrays.specs.OffsetWidth.{OffsetWidth}
-use Rattle.arrays.specs.OffsetWidths.{Narrow}
+use Rattle.arrays.specs.Prelude.{Batch, FieldShape, IntType, Narrow, OffsetWidth, Seen, Shape, kind_of_field}
 use Rattle.arrays.specs.Shape as shape
-use Rattle.arrays.specs.Shape.{Shape, FieldShape, kind_of_field}
-use Rattle.flat.specs.Batch.{IsBatchOf, IsColumn, Takes}
-use Rattle.flat.specs.Content.{content_of}
-use Rattle.flat.specs.Fields.{Begins, field_named, shape_alone}
-use Rattle.flat.specs.Parts.{read_column}
-use Rattle.flat.specs.Schema.{most_levels}
+use Rattle.flat.specs.Prelude.{Begins, IsBatchOf, IsColumn, Takes, content_of, field_named, most_levels, read_column, shape_alone}
 use Rattle.flat.specs.declared.content.Content.{Content}
 use Rattle.flat.specs.declared.content.Content.TheVariants as content
 use Rattle.flat.specs.declared.node.Node.{Node}

@@ -1,12 +1,7 @@
 -- The record batch that nodes are.
 use Rattle.std.specs.Prelude.{◌≡◌, ◌⊎◌, ℕ, List, [], ◌∷◌, length, Some, None}
-use Rattle.arrays.specs.Batch.{Batch, batch_fault}
+use Rattle.arrays.specs.Prelude.{Batch, FieldShape, LayoutFault, SchemaFault, Seen, batch_fault, kind_of_field, schema_fault}
 use Rattle.arrays.specs.declared.batch.BatchFault.{BatchFault}
-use Rattle.arrays.specs.Seen.{Seen}
-use Rattle.arrays.specs.LayoutFault.{LayoutFault}
-use Rattle.arrays.specs.Schema.{schema_fault}
-use Rattle.arrays.specs.Shape.{FieldShape, kind_of_field}
-use Rattle.arrays.specs.SchemaFault.{SchemaFault}
 use Rattle.flat.specs.Fields.{Begins, Stops}
 use Rattle.flat.specs.Parts.{read_column}
 use Rattle.flat.specs.Schema.{most_levels}

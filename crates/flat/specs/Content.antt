@@ -3,7 +3,7 @@ use Rattle.std.specs.Prelude.{ℕ, ◌==◌, List, [], ◌∷◌, not, Option, S
 use Rattle.std.specs.Bool.{then_some}
 use Rattle.std.specs.Option.{option_and_then}
 use Rattle.std.specs.Str.{is_utf8}
-use Rattle.arrays.specs.First.{first}
+use Rattle.arrays.specs.Prelude.{first}
 use Rattle.flat.specs.Format.{format_content}
 use Rattle.flat.specs.declared.content.Content.{Content}
 use Rattle.flat.specs.declared.content.Content.TheVariants as content

@@ -1,8 +1,6 @@
 -- What formats name (Arrow C data interface, "Data type description -- format strings").
 use Rattle.std.specs.Prelude.{ℕ, ◌==◌, List, [], ◌∷◌, Bool, true, false, Option, Some, None, if◌then◌else◌}
-use Rattle.arrays.specs.Width.{Width}
-use Rattle.arrays.specs.Widths.{W8, W16, W32, W64}
-use Rattle.arrays.specs.OffsetWidths.{Narrow, Wide}
+use Rattle.arrays.specs.Prelude.{Narrow, W16, W32, W64, W8, Wide, Width}
 use Rattle.flat.specs.declared.content.Content.{Content}
 use Rattle.flat.specs.declared.content.Content.TheVariants as content
 

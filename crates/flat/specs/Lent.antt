@@ -1,12 +1,7 @@
 -- Nodes over the parts of arrays, which are lent.
 use Rattle.std.specs.Prelude.{◌≡◌, ◌<◌, ◌==◌, ℕ, List, [], ◌∷◌, ◌++◌, Bool, not, Option, Some, None}
-use Rattle.arrays.specs.Checked.{checked_texts}
-use Rattle.arrays.specs.Layout.{Buffers, bytes_at}
-use Rattle.arrays.specs.Reading.{Reading, read_parts}
-use Rattle.arrays.specs.Seen.{Seen}
+use Rattle.arrays.specs.Prelude.{Buffers, FieldShape, Kind, Reading, Seen, bytes_at, checked_texts, depth, int32, kind_of_field, read_parts}
 use Rattle.arrays.specs.Kind as kind
-use Rattle.arrays.specs.Kind.{Kind, depth, int32}
-use Rattle.arrays.specs.Shape.{FieldShape, kind_of_field}
 use Rattle.flat.specs.Fields.{Begins}
 use Rattle.flat.specs.Parts.{stated}
 use Rattle.flat.specs.Content.{content_of}

@@ -7,3 +7,4 @@ pub mod Schema
 pub mod Batch
 pub mod Lent
 pub mod Named
+pub mod Prelude

@@ -1,8 +1,7 @@
 -- Nodes that name a field.
 use Rattle.std.specs.Prelude.{◌≡◌, ◌<◌, ◌++◌, ℕ, List, [], ◌∷◌, Some}
 use Rattle.arrays.specs.Kind as kind
-use Rattle.arrays.specs.Kind.{depth}
-use Rattle.arrays.specs.Shape.{FieldShape, kind_of_field}
+use Rattle.arrays.specs.Prelude.{FieldShape, depth, kind_of_field}
 use Rattle.flat.specs.Content.{content_of}
 use Rattle.flat.specs.Fields.{Begins}
 use Rattle.flat.specs.Lent.{content_of_kind}

@@ -1,12 +1,8 @@
 -- The parts of nodes as arrays (Arrow C data interface, "The ArrowArray structure").
 use Rattle.std.specs.Prelude.{ℕ, ◌==◌, ◌/◌, ◌^◌, ◌-◌, ℤ, negsuc, List, [], ◌∷◌, length, Option, Some, None, if◌then◌else◌}
 use Rattle.std.specs.List.{flat_map, range_with_len}
-use Rattle.arrays.specs.Layout.{Buffers}
-use Rattle.arrays.specs.Reading.{Reading, read_parts}
-use Rattle.arrays.specs.IntType.{IntType}
+use Rattle.arrays.specs.Prelude.{Buffers, IntType, Kind, Reading, bytes_of, bytes_of_number, int32, is_of_type, number_at, read_parts}
 use Rattle.arrays.specs.Kind as kind
-use Rattle.arrays.specs.Kind.{Kind, bytes_of, int32}
-use Rattle.arrays.specs.Number.{bytes_of_number, is_of_type, number_at}
 use Rattle.flat.specs.Content.{content_of}
 use Rattle.flat.specs.declared.content.Content.{Content}
 use Rattle.flat.specs.declared.content.Content.TheVariants as content

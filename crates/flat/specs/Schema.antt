@@ -1,8 +1,6 @@
 -- The schema that nodes name.
 use Rattle.std.specs.Prelude.{◌≡◌, ℕ, List, [], ◌∷◌, length, Some}
-use Rattle.arrays.specs.Schema.{schema_fault}
-use Rattle.arrays.specs.Shape.{FieldShape}
-use Rattle.arrays.specs.SchemaFault.{SchemaFault}
+use Rattle.arrays.specs.Prelude.{FieldShape, SchemaFault, schema_fault}
 use Rattle.flat.specs.Fields.{Begins, Stops}
 use Rattle.flat.specs.declared.fault.FlatFault.{FlatFault}
 use Rattle.flat.specs.declared.fault.FlatFault.TheVariants.{Schema}

@@ -1,8 +1,7 @@
 //! Indices of a dictionary as codes of 32 bits, which arrays have.
 
 ghost use Rattle.std.specs.Prelude.{◌≡◌, ◌+◌, ◌*◌, ◌≤◌, IfOk, length};
-ghost use Rattle.arrays.specs.Kind.{bytes_of, int32};
-ghost use Rattle.arrays.specs.Number.{IsOfType, number_at};
+ghost use Rattle.arrays.specs.Prelude.{IsOfType, bytes_of, int32, number_at};
 ghost use Rattle.flat.specs.Parts.{code, code_bytes};
 
 use arrays::{Buffer, INT32, IntType, Integer, NoMemory, push_number, with_integer};

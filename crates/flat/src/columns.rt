@@ -1,7 +1,7 @@
 //! The columns that nodes are.
 
 ghost use Rattle.std.specs.Prelude.{◌≡◌, ◌≢◌, ◌⊎◌, ◌≤◌, ◌++◌, ◌∷◌, [], IfErr, IfOk, OnOk, drop, length};
-ghost use Rattle.arrays.specs.Shape.{field_of, fields_of};
+ghost use Rattle.arrays.specs.Prelude.{field_of, fields_of};
 ghost use Rattle.flat.specs.Batch.{IsColumn, StopsArray, StopsColumn, StopsColumns, Takes};
 ghost use Rattle.flat.specs.Fields.{Begins};
 ghost use Rattle.flat.specs.Schema.{most_levels};

@@ -1,9 +1,8 @@
 //! The fields that nodes name.
 
 ghost use Rattle.std.specs.Prelude.{◌≡◌, ◌⊎◌, ◌==◌, ◌≤◌, IfErr, IfOk, None, Some, drop, length, not, string_bytes};
-ghost use Rattle.arrays.specs.First.{first};
+ghost use Rattle.arrays.specs.Prelude.{field_of, first, shape_of};
 ghost use Rattle.arrays.specs.Shape as shape;
-ghost use Rattle.arrays.specs.Shape.{field_of, shape_of};
 ghost use Rattle.flat.specs.Content.{content_faults, content_of, node_fault};
 ghost use Rattle.flat.specs.Fields.{Begins, Stops, dictionary_fault, field_named, is_dictionary};
 

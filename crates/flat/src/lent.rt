@@ -2,15 +2,11 @@
 
 ghost use Rattle.std.specs.Prelude.{◌≡◌, ◌<◌, IfOk, None, OnOk, Some, [], slice_get};
 ghost use Rattle.std.specs.Arc.{arc_value};
-ghost use Rattle.arrays.specs.Lent.{read_lent};
+ghost use Rattle.arrays.specs.Prelude.{Kind, bytes_at, field_of, is_nullable, kind_of, kind_of_field, name_of, out-RawArray, read_checked, read_lent};
 ghost use Rattle.flat.specs.Content.{child_count};
 ghost use Rattle.flat.specs.Format.{format_content};
 ghost use Rattle.flat.specs.Lent.{ArePushed, IsNodeOver, IsTextPushed, LendsColumns, content_of_kind, dictionary_of_kind, format_of_kind};
-ghost use Rattle.arrays.specs.Checked.{read_checked};
-ghost use Rattle.arrays.specs.Layout.{bytes_at};
-ghost use Rattle.arrays.specs.RawArray.{out-RawArray};
-ghost use Rattle.arrays.specs.Kind.{Kind, int, kind_of};
-ghost use Rattle.arrays.specs.Shape.{field_of, is_nullable, kind_of_field, name_of};
+ghost use Rattle.arrays.specs.Kind.{int};
 
 use crate::node::Node;
 use arrays::{

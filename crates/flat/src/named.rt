@@ -3,7 +3,7 @@
 ghost use Rattle.std.specs.Prelude.{IfOk, OnOk, []};
 ghost use Rattle.flat.specs.Named.{AreNamed, AreTextsNamed};
 ghost use Rattle.flat.specs.Schema.{Names};
-ghost use Rattle.arrays.specs.Shape.{field_of};
+ghost use Rattle.arrays.specs.Prelude.{field_of};
 
 use crate::lent::{node_of, node_over};
 use crate::node::Node;

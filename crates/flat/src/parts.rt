@@ -1,8 +1,7 @@
 //! The parts of nodes as arrays, copied.
 
 ghost use Rattle.std.specs.Prelude.{◌≡◌, IfOk, map, option_map};
-ghost use Rattle.arrays.specs.Reading.{read_parts, reading};
-ghost use Rattle.arrays.specs.Kind.{kind_of};
+ghost use Rattle.arrays.specs.Prelude.{kind_of, read_parts, reading};
 ghost use Rattle.flat.specs.Content.{content_of};
 ghost use Rattle.flat.specs.Parts.{buffers_given, codes_of, read_codes, read_column, read_dictionary, read_node, stated, validity_given};
 

@@ -1,7 +1,7 @@
 //! The schema that nodes name.
 
 ghost use Rattle.std.specs.Prelude.{◌≡◌, ◌⊎◌, [], IfErr, IfOk};
-ghost use Rattle.arrays.specs.Shape.{fields_of};
+ghost use Rattle.arrays.specs.Prelude.{fields_of};
 ghost use Rattle.flat.specs.Schema.{Names, StopsFields, StopsSchema};
 
 use crate::fault::FlatFault;

@@ -9,12 +9,9 @@ use Rattle.std.specs.declared.cmp.Ordering.TheVariants.{Less, Equal, Greater}
 use Rattle.std.proofs.lemmas.Cmp.{upto, back_total, int_cmp_total, nat_list_cmp_total}
 use Rattle.std.proofs.lemmas.List.Elements.{All-cons, All-map}
 use Rattle.std.specs.List.{filter_map}
-use Rattle.arrays.specs.Item.{Item, int, boolean, text}
+use Rattle.arrays.specs.Prelude.{Item, Kind, boolean, int, order, text}
 use Rattle.arrays.specs.Kind as kind
-use Rattle.arrays.specs.Kind.{Kind}
-use Rattle.arrays.specs.Order.{order}
-use Rattle.group.specs.Bounds.{IsGreatestOf, IsLeastOf}
-use Rattle.group.specs.Stats.{greater, greatest_of, least_of, lesser, number_of, ordered}
+use Rattle.group.specs.Prelude.{IsGreatestOf, IsLeastOf, greater, greatest_of, least_of, lesser, number_of, ordered}
 use Rattle.group.proofs.JoinedStats.{are_bytes, are_numbers, are_truths, bytes_of_text, cond-item, pick, picks-first, picks-second, reduce-items, truth_of}
 use Rattle.group.proofs.TallyLemmas.{no_greatest_of_lists, no_least_of_lists}
 

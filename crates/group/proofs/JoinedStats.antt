@@ -11,13 +11,10 @@ use Rattle.std.proofs.lemmas.List.{append-nil, map-append}
 use Rattle.std.proofs.lemmas.List.Sums.{fold-append, sum_by-append}
 use Rattle.std.proofs.lemmas.List.Elements.{filter-append, filter_map-append}
 use Rattle.std.proofs.lemmas.Int.{ints}
-use Rattle.arrays.specs.Item.{Item, null, int, boolean, text, list, is_null}
+use Rattle.arrays.specs.Prelude.{Item, Kind, boolean, int, is_null, list, null, text}
 use Rattle.arrays.specs.Kind as kind
-use Rattle.arrays.specs.Kind.{Kind}
-use Rattle.group.specs.Joined.{better, both_sums}
-use Rattle.group.specs.Summary.{AreStats, scalar_item}
+use Rattle.group.specs.Prelude.{AreStats, better, both_sums, greater, greatest_of, is_bytes, is_number, is_truth, least_of, lesser, nulls_of, number_of, numbers_of, scalar_item, sum_of, total_of}
 use Rattle.group.specs.declared.stats.ColumnStats.{ColumnStats}
-use Rattle.group.specs.Stats.{is_number, is_truth, is_bytes, lesser, greater, nulls_of, number_of, numbers_of, total_of, sum_of, least_of, greatest_of}
 use Rattle.group.proofs.TallyLemmas.{no_least_of_lists, no_greatest_of_lists}
 
 -- ---- the best of values, as items

@@ -2,9 +2,8 @@
 use Rattle.std.proofs.Common.{◌≡◌, ◌∙◌, ℕ, zero, suc, pos, ◌+ℤ◌, [], ◌∷◌, replicate, Some, None, cond, ap, refl, arith}
 use Rattle.std.proofs.lemmas.List.Folds.{sum_by-replicate}
 use Rattle.std.specs.List.{fold, reduce}
-use Rattle.arrays.specs.Item.{null, is_null}
+use Rattle.arrays.specs.Prelude.{Kind, is_null, null}
 use Rattle.arrays.specs.Kind as kind
-use Rattle.arrays.specs.Kind.{Kind}
 use Rattle.group.specs.Stats.{ordered, lesser, greater, nulls_of, numbers_of, sum_of, least_of, greatest_of}
 use Rattle.group.proofs.TallyLemmas.{null_is_not}
 

@@ -7,11 +7,9 @@ use Rattle.std.specs.Cmp.{int_ranks}
 use Rattle.std.specs.declared.cmp.Ordering.{Ordering}
 use Rattle.std.specs.declared.cmp.Ordering.TheVariants.{Less, Equal, Greater}
 use Rattle.std.proofs.lemmas.Int.{ints, int_min_is, int_max_is, fold-int_min_bounds, fold-int_min_reached, fold-int_max_bounds, fold-int_max_reached}
-use Rattle.arrays.specs.Item.{Item, null, int, boolean, text, list}
+use Rattle.arrays.specs.Prelude.{IntType, Item, boolean, int, list, null, text}
 use Rattle.arrays.specs.Kind as kind
-use Rattle.arrays.specs.IntType.{IntType}
-use Rattle.group.specs.Numbers.{IsLeast, IsGreatest, least_number, greatest_number}
-use Rattle.group.specs.Stats.{numbers_of, lesser, greater, least_of, greatest_of}
+use Rattle.group.specs.Prelude.{IsGreatest, IsLeast, greater, greatest_number, greatest_of, least_number, least_of, lesser, numbers_of}
 use Rattle.group.proofs.JoinedStats.{are_numbers, reduce-items}
 
 -- ---- as values they are the same

@@ -5,7 +5,7 @@ use Rattle.std.proofs.lemmas.Int.{ints}
 use Rattle.std.proofs.lemmas.List.{append-nil}
 use Rattle.std.proofs.lemmas.List.Sums.{fold_push}
 use Rattle.std.proofs.lemmas.List.Elements.{filter_map-append}
-use Rattle.arrays.specs.Item.{Item, null, int}
+use Rattle.arrays.specs.Prelude.{Item, int, null}
 use Rattle.group.specs.Stats.{number_of, numbers_of}
 
 -- the sum of the numbers among some items, of which there are no more than n

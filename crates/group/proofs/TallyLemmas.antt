@@ -5,16 +5,11 @@ use Rattle.std.proofs.lemmas.List.{append-nil, take_more}
 use Rattle.std.proofs.lemmas.List.Sums.{fold_push, sum_by_push, count_by-le-length}
 use Rattle.std.proofs.lemmas.List.Elements.{filter-append}
 use Rattle.std.proofs.lemmas.List.FromFn.{get_or-map-range_with_len}
-use Rattle.arrays.specs.Item.{Item, null, int, boolean, text, list, is_null}
+use Rattle.arrays.specs.Prelude.{Item, Kind, Seen, boolean, int, is_list, is_null, is_text, list, null, text, valid_at, valid_values}
 use Rattle.arrays.specs.Kind as kind
-use Rattle.arrays.specs.Kind.{Kind}
 use Rattle.std.specs.List.{slice_get}
 use Rattle.std.proofs.lemmas.Option.{slice_get_within, get_or_from_slice_get}
-use Rattle.arrays.specs.Slot.{is_list, is_text}
-use Rattle.arrays.specs.Seen.{Seen, valid_at}
-use Rattle.arrays.specs.Values.{valid_values}
-use Rattle.group.specs.Stats.{is_ordered, ordered, lesser, greater, nulls_of, least_of, greatest_of, sum_of}
-use Rattle.group.specs.Tally.{IsTally, chosen}
+use Rattle.group.specs.Prelude.{IsTally, chosen, greater, greatest_of, is_ordered, least_of, lesser, nulls_of, ordered, sum_of}
 
 reduce_push : (choose : Item → Item → Item) (xs : List Item) (x : Item) → reduce choose (xs ++ x ∷ []) ≡ Some (chosen choose (reduce choose xs) x)
 reduce_push choose [] x = refl

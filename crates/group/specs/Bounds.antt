@@ -1,9 +1,7 @@
 -- The least and the greatest value of a column, whatever the order of its kind.
 use Rattle.std.specs.Prelude.{◌≡◌, List, false, All, Contains}
 use Rattle.std.specs.Ordering.{is_gt}
-use Rattle.arrays.specs.Item.{Item}
-use Rattle.arrays.specs.Kind.{Kind}
-use Rattle.arrays.specs.Order.{order}
+use Rattle.arrays.specs.Prelude.{Item, Kind, order}
 use Rattle.group.specs.Stats.{ordered}
 
 -- The item is one of the column's values and behind none of them.

@@ -7,3 +7,4 @@ pub mod Joined
 pub mod Bounds
 pub mod StatsOfColumns
 pub mod Scalars
+pub mod Prelude

@@ -2,7 +2,7 @@
 use Rattle.std.specs.Prelude.{ℤ, ◌≤ℤ◌, List, Option, Contains}
 use Rattle.std.specs.List.{reduce}
 use Rattle.std.specs.Int.{int_min, int_max}
-use Rattle.arrays.specs.Item.{Item, int}
+use Rattle.arrays.specs.Prelude.{Item, int}
 use Rattle.group.specs.Stats.{numbers_of}
 
 -- The least and the greatest of the numbers that are there, none where none is.

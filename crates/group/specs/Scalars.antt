@@ -1,6 +1,6 @@
 -- Scalars, owned and borrowed, as items.
 use Rattle.std.specs.Prelude.{Option, Some, None, if◌then◌else◌, option_map}
-use Rattle.arrays.specs.Item.{Item, null, int, boolean, text, is_null}
+use Rattle.arrays.specs.Prelude.{Item, boolean, int, is_null, null, text}
 use Rattle.group.specs.Summary.{scalar_item}
 use Rattle.group.specs.declared.stats.Scalar.{Scalar}
 use Rattle.group.specs.declared.scalar_ref.ScalarRef.{ScalarRef}

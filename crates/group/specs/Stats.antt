@@ -3,9 +3,7 @@ use Rattle.std.specs.Prelude.{ℕ, ℤ, pos, ◌+ℤ◌, List, Bool, true, false
 use Rattle.std.specs.List.{filter, filter_map, reduce}
 use Rattle.std.specs.Ordering.{is_gt}
 use Rattle.arrays.specs.Kind as kind
-use Rattle.arrays.specs.Kind.{Kind}
-use Rattle.arrays.specs.Item.{Item, null, int, boolean, text, list, is_null}
-use Rattle.arrays.specs.Order.{order}
+use Rattle.arrays.specs.Prelude.{Item, Kind, boolean, int, is_null, list, null, order, text}
 
 -- How many items are null: of a dictionary-encoded column also those whose entry is null.
 abbrev pub nulls_of : List Item → ℕ

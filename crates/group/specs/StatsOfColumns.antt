@@ -1,9 +1,7 @@
 -- Statistics of columns side by side.
 use Rattle.std.specs.Prelude.{◌++◌, List}
 use Rattle.std.specs.List.{AllZip, zip}
-use Rattle.arrays.specs.Item.{Item}
-use Rattle.arrays.specs.Kind.{Kind}
-use Rattle.arrays.specs.Seen.{Seen}
+use Rattle.arrays.specs.Prelude.{Item, Kind, Seen}
 use Rattle.group.specs.Summary.{AreStats}
 use Rattle.group.specs.declared.stats.ColumnStats.{ColumnStats}
 

@@ -1,7 +1,6 @@
 -- Statistics of a column. (Arrow columnar format, "Null count")
 use Rattle.std.specs.Prelude.{◌≡◌, List, length, option_map, string_bytes}
-use Rattle.arrays.specs.Kind.{Kind}
-use Rattle.arrays.specs.Item.{Item, int, boolean, text}
+use Rattle.arrays.specs.Prelude.{Item, Kind, boolean, int, text}
 use Rattle.group.specs.Stats.{nulls_of, sum_of, least_of, greatest_of}
 use Rattle.group.specs.declared.stats.Scalar.{Scalar}
 use Rattle.group.specs.declared.stats.Scalar.TheVariants.{Int, Bool, Text}

@@ -1,7 +1,6 @@
 -- What is known of the items of a column so far, while it is walked.
 use Rattle.std.specs.Prelude.{◌≡◌, ℕ, List, Option, Some, None}
-use Rattle.arrays.specs.Kind.{Kind}
-use Rattle.arrays.specs.Item.{Item}
+use Rattle.arrays.specs.Prelude.{Item, Kind}
 use Rattle.group.specs.Stats.{nulls_of, least_of, greatest_of}
 
 -- The number of nulls, the least and the greatest value.

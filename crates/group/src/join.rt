@@ -3,9 +3,7 @@
 ghost use Rattle.std.specs.Prelude.{◌≡◌, ◌+◌, ◌^◌, ◌≤◌, ◌++◌, ◌≤ℤ◌, IfOk, List, neg_ℤ, option_map, pos, ◌*◌};
 ghost use Rattle.std.specs.Option.{ForSome};
 ghost use Rattle.std.specs.Ordering.{is_gt};
-ghost use Rattle.arrays.specs.Item.{Item};
-ghost use Rattle.arrays.specs.Kind.{Kind};
-ghost use Rattle.arrays.specs.Order.{order};
+ghost use Rattle.arrays.specs.Prelude.{Item, Kind, order};
 ghost use Rattle.group.specs.Joined.{better, both_sums};
 ghost use Rattle.group.specs.Stats.{greater, lesser};
 ghost use Rattle.group.specs.Summary.{AreStats, scalar_item};

@@ -1,10 +1,8 @@
 //! What holds of the least and the greatest of any column.
 
 ghost use Rattle.std.specs.Prelude.{◌≡◌, ◌↔◌, ℤ, List, [], None, IfSome, Contains, option_map};
-ghost use Rattle.arrays.specs.Item.{Item, int};
+ghost use Rattle.arrays.specs.Prelude.{IntType, Item, Kind, int};
 ghost use Rattle.arrays.specs.Kind as kind;
-ghost use Rattle.arrays.specs.Kind.{Kind};
-ghost use Rattle.arrays.specs.IntType.{IntType};
 ghost use Rattle.group.specs.Bounds.{IsGreatestOf, IsLeastOf};
 ghost use Rattle.group.specs.Numbers.{IsGreatest, IsLeast, greatest_number, least_number};
 ghost use Rattle.group.specs.Stats.{greatest_of, least_of, ordered};

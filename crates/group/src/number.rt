@@ -10,7 +10,7 @@ pub(crate) struct Number<T: Integer> {
 }
 
 impl<T: Integer> Value for Number<T> {
-    ghost use Rattle.arrays.specs.Item.{int};
+    ghost use Rattle.arrays.specs.Prelude.{int};
 
     ghost item = { λ n. int (T.value n.number) };
 

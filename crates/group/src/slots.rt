@@ -1,9 +1,8 @@
 //! The statistics of the slots of a view.
 
 ghost use Rattle.std.specs.Prelude.{◌≡◌, IfOk, option_map, true};
-ghost use Rattle.arrays.specs.Item.{boolean, int, text};
+ghost use Rattle.arrays.specs.Prelude.{boolean, int, is_list, is_text, text};
 ghost use Rattle.arrays.specs.Kind as kind;
-ghost use Rattle.arrays.specs.Slot.{is_list, is_text};
 ghost use Rattle.group.specs.Summary.{AreStats, scalar_item};
 
 use crate::number::Number;

@@ -32,8 +32,7 @@ pub struct ColumnStats {
 
 impl ColumnStats {
     ghost use Rattle.std.specs.Prelude.{[], replicate};
-    ghost use Rattle.arrays.specs.Item.{null};
-    ghost use Rattle.arrays.specs.ViewType.{view_kind};
+    ghost use Rattle.arrays.specs.Prelude.{null, view_kind};
     ghost use Rattle.group.specs.Summary.{AreStats};
 
     /// The statistics of a column of a type without slots.

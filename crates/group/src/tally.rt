@@ -2,14 +2,13 @@
 
 ghost use Rattle.std.specs.Prelude.{◌≡◌, ◌+◌, ◌^◌, ◌<◌, None, Some, option_map};
 ghost use Rattle.std.specs.Ordering.{is_gt};
-ghost use Rattle.arrays.specs.Item.{Item};
-ghost use Rattle.arrays.specs.Order.{order};
+ghost use Rattle.arrays.specs.Prelude.{Item, order};
 ghost use Rattle.group.specs.Stats.{greater, lesser};
 ghost use Rattle.group.specs.Tally.{chosen};
 
 /// Values that come before or behind one another.
 pub(crate) trait Value: Copy {
-    ghost use Rattle.arrays.specs.Item.{Item};
+    ghost use Rattle.arrays.specs.Prelude.{Item};
 
     // The value as an item.
     ghost item: { Self → Item };
@@ -20,7 +19,7 @@ pub(crate) trait Value: Copy {
 }
 
 impl Value for bool {
-    ghost use Rattle.arrays.specs.Item.{boolean};
+    ghost use Rattle.arrays.specs.Prelude.{boolean};
 
     ghost item = { boolean };
 
@@ -30,7 +29,7 @@ impl Value for bool {
 }
 
 impl<'a> Value for &'a str {
-    ghost use Rattle.arrays.specs.Item.{text};
+    ghost use Rattle.arrays.specs.Prelude.{text};
 
     ghost item = { λ s. text s.now };
 

@@ -1,16 +1,11 @@
 -- What a table is after columns that are lent were handed to it.
 use Rattle.std.specs.Prelude.{◌≡◌, ◌≢◌, ◌⊎◌, ℕ, List, [], ◌∷◌, length, Some, None}
-use Rattle.arrays.specs.Batch.{Batch}
-use Rattle.arrays.specs.Shape.{FieldShape}
-use Rattle.flat.specs.Batch.{IsBatchOf, StopsColumns, StopsTogether}
-use Rattle.flat.specs.Schema.{Names, StopsFields, StopsSchema}
+use Rattle.arrays.specs.Prelude.{Batch, FieldShape}
+use Rattle.flat.specs.Prelude.{IsBatchOf, Names, StopsColumns, StopsFields, StopsSchema, StopsTogether}
 use Rattle.flat.specs.declared.fault.FlatFault.{FlatFault}
 use Rattle.flat.specs.declared.fault.FlatFault.TheVariants as flat
 use Rattle.flat.specs.declared.node.Node.{Node}
-use Rattle.table.specs.Cause.{batch_cause, early_cause}
-use Rattle.table.specs.Contents.{Contents, admitted}
-use Rattle.table.specs.Stored.{stored_field, stored_fields}
-use Rattle.table.specs.Widened.{add_fault, with_last_field}
+use Rattle.table.specs.Prelude.{Contents, add_fault, admitted, batch_cause, early_cause, stored_field, stored_fields, with_last_field}
 use Rattle.table.specs.declared.add_fault.AddFault.{AddFault}
 use Rattle.table.specs.declared.add_fault.AddFault.TheVariants as column
 use Rattle.table.specs.declared.refusal.Refusal.{Refusal}

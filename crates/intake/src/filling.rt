@@ -1,7 +1,7 @@
 //! Tables of nodes, and their batches.
 
 ghost use Rattle.std.specs.Prelude.{◌≡◌, IfErr, IfOk, OnErr, OnOk, length};
-ghost use Rattle.arrays.specs.Shape.{field_of};
+ghost use Rattle.arrays.specs.Prelude.{field_of};
 ghost use Rattle.intake.specs.Filling.{IsAppended, IsEmptyOf, IsOneColumn, IsWidened, StopsAppend, StopsNaming, StopsWidening};
 
 use crate::fault::IntakeFault;

@@ -7,8 +7,7 @@ use Rattle.clap.specs.Words.{App, HasKind, HasMatchesOf, IsAmong, Row, Text, fau
 use Rattle.clap.specs.declared.error.Error.{Error}
 use Rattle.clap.specs.declared.parser.matches.ArgMatches.{ArgMatches}
 use Rattle.clap.specs.declared.error.kind.ErrorKind.TheVariants.{OutOfMemory}
-use Rattle.job.specs.Jobs.{Asks, Finds, FindsInputTwice, FindsNone, FindsQuery, HasNoOutput, HasNoQuery, HasNoWorkers, HasTwoQueries, HasNumber, HasOwn, HasWorkers, IsFaultOf, IsNumber, RefusesWords, IsUnfound, word_of}
-use Rattle.job.specs.CommandLine.{arrowtab}
+use Rattle.job.specs.Prelude.{Asks, Finds, FindsInputTwice, FindsNone, FindsQuery, HasNoOutput, HasNoQuery, HasNoWorkers, HasNumber, HasOwn, HasTwoQueries, HasWorkers, IsFaultOf, IsNumber, IsUnfound, RefusesWords, arrowtab, word_of}
 use Rattle.job.specs.declared.fault.JobFault.{JobFault}
 use Rattle.job.specs.declared.fault.JobFault.TheVariants.{Line, Unread, NoQuery, TwoQueries, UnknownOutput, InputTwice, NoMemory}
 use Rattle.job.specs.declared.jobs.Command.{Command}

@@ -2,3 +2,4 @@
 pub mod CommandLine
 pub mod Jobs
 pub mod Printed
+pub mod Prelude

@@ -6,10 +6,7 @@ use Rattle.std.specs.List.{list_all}
 use Rattle.std.specs.Char.{is_ascii_digit, digit_value}
 use Rattle.std.specs.Str.Parse.{digits_value, digits_value_after}
 use Rattle.json_base.specs.JsonNumber.{numeral, below, is_numeral, fitting, narrow}
-use Rattle.arrays.specs.IntType.{IntType}
-use Rattle.arrays.specs.Number.{is_of_type}
-use Rattle.arrays.specs.Width.{Width}
-use Rattle.arrays.specs.Widths.{W8, W16, W32, W64}
+use Rattle.arrays.specs.Prelude.{IntType, W16, W32, W64, W8, Width, is_of_type}
 use Rattle.std.proofs.lemmas.Int.{ints}
 use Rattle.arrays.proofs.RangeLemmas.{IsOfType-from_test}
 

@@ -1,7 +1,7 @@
 -- How a fault is reported.
 use Rattle.std.specs.Prelude.{ℕ, List, [], ◌∷◌, ◌++◌, codes, Option, Some, None}
 use Rattle.std.specs.Fmt.{decimal}
-use Rattle.arrays.specs.LayoutFault.{LayoutFault}
+use Rattle.arrays.specs.Prelude.{LayoutFault}
 use Rattle.arrays.specs.LayoutFaults as layout
 use Rattle.json_base.specs.JsonPath.{pointer}
 use Rattle.json_base.specs.declared.path.Step.{Step}

@@ -3,10 +3,7 @@ use Rattle.std.specs.Prelude.{ℕ, ◌^◌, ◌==◌, ◌&&◌, ℤ, pos, neg_�
 use Rattle.std.specs.List.{list_all}
 use Rattle.std.specs.Char.{is_ascii_digit}
 use Rattle.std.specs.Str.Parse.{digits_value}
-use Rattle.arrays.specs.IntType.{IntType}
-use Rattle.arrays.specs.Width.{Width}
-use Rattle.arrays.specs.Widths.{W8, W16, W32, W64}
-use Rattle.arrays.specs.Number.{is_of_type}
+use Rattle.arrays.specs.Prelude.{IntType, W16, W32, W64, W8, Width, is_of_type}
 use Rattle.serde_json.specs.Data.{Num, Data, null, boolean, number, string, array, object}
 use Rattle.serde_json.specs.Find.{as_number, as_integer, as_u64}
 

@@ -1,10 +1,7 @@
 -- What a file holds, without where it lies in memory: who reads a file and who prints one both say it so.
 use Rattle.std.specs.Prelude.{ℕ, List, map, slice_index_or}
 use Rattle.std.specs.List.{range_with_len}
-use Rattle.arrays.specs.Batch.{Batch}
-use Rattle.arrays.specs.Item.{Item, null}
-use Rattle.arrays.specs.Seen.{Seen}
-use Rattle.arrays.specs.Shape.{FieldShape}
+use Rattle.arrays.specs.Prelude.{Batch, FieldShape, Item, Seen, null}
 
 -- A table: so many rows, and the items of each column.
 pub record Table : Type 0 where

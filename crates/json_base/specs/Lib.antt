@@ -4,11 +4,10 @@ pub use Rattle.serde_json.specs.Events
 pub use Rattle.serde_json.specs.Find
 pub use Rattle.serde_json.specs.Read
 pub use Rattle.serde_json.specs.View
-pub use Rattle.serde_json.specs.Written
-pub use Rattle.serde_json.specs.declared.value.Value
 pub mod JsonPath
 pub mod FaultAt
 pub mod JsonFaultText
 pub mod JsonMember
 pub mod JsonNumber
 pub mod JsonTable
+pub mod Prelude

@@ -1,5 +1,5 @@
 ghost use Rattle.std.specs.Prelude.{◌≡◌, ◌<◌, ◌^◌, option_and_then, IfSome};
-ghost use Rattle.arrays.specs.Number.{IsOfType};
+ghost use Rattle.arrays.specs.Prelude.{IsOfType};
 ghost use Rattle.serde_json.specs.View.{view, number_view};
 ghost use Rattle.json_base.specs.JsonNumber.{integer_of, fitting, spelled, narrow, numeral, below, count_of, flag_of, width_of};
 

@@ -2,15 +2,9 @@
 use Rattle.std.proofs.Common.{◌≡◌, ◌∙◌, ◌+◌, ◌<◌, List, [], ◌∷◌, ◌++◌, length, map, Option, Some, sym, ap, subst, arith, length-append}
 use Rattle.std.proofs.lemmas.List.{map-append}
 use Rattle.std.proofs.lemmas.Option.{slice_get_within}
-use Rattle.arrays.specs.Batch.{Batch}
-use Rattle.arrays.specs.Shape.{FieldShape}
-use Rattle.json_read.specs.Data.{Data, no_items}
-use Rattle.json_read.specs.Find.{get_item}
-use Rattle.json_read.specs.JsonMember.{ReadsFirst}
-use Rattle.json_read.specs.JsonTable.{Table, table_of}
+use Rattle.arrays.specs.Prelude.{Batch, FieldShape}
+use Rattle.json_read.specs.Prelude.{Coding, Data, ReadsBatch, ReadsFirst, Table, get_item, no_items, table_of}
 use Rattle.json_read.proofs.JsonItems.{first_pushed, slice_get-front, slice_get-last}
-use Rattle.json_read.specs.JsonBatch.{ReadsBatch}
-use Rattle.json_read.specs.JsonCatalog.{Coding}
 use Rattle.json_read.proofs.JsonFiles.{AreUnder-push}
 use Rattle.json_scan.specs.Spelling.{before}
 use Rattle.json_stream.proofs.SlotLemmas.{get_item-before}

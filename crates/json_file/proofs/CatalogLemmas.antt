@@ -5,22 +5,15 @@ use Rattle.std.specs.Arc.{arc_value}
 use Rattle.std.specs.declared.sync.Arc.{Arc}
 use Rattle.std.proofs.lemmas.List.{length-map}
 use Rattle.std.proofs.lemmas.Option.{slice_get-map, slice_get_read}
-use Rattle.arrays.specs.Seen.{Seen}
-use Rattle.json_read.specs.Data.{Data, array, no_items}
-use Rattle.json_read.specs.Find.{as_array}
-use Rattle.json_read.specs.JsonMember.{ReadsEach}
+use Rattle.arrays.specs.Prelude.{Seen}
+use Rattle.json_read.specs.Prelude.{AreCodings, AreWordsOf, Coding, Data, HasDictionary, HasId, HasSome, IsBefore, IsCoding, IsNumberPlace, ReadsEach, StandsOnce, array, as_array, no_items, parts_of, place_at}
 use Rattle.json_read.proofs.JsonItems.{get_item_some}
-use Rattle.json_read.specs.CatalogParts.{AreCodings, HasSome, IsCoding, AreWordsOf}
-use Rattle.json_read.specs.EncodingParts.{parts_of}
-use Rattle.json_read.specs.JsonCatalog.{Coding, HasDictionary, HasId, StandsOnce}
-use Rattle.json_read.specs.PlaceParts.{IsNumberPlace, IsBefore, place_at}
 use Rattle.json_read.specs.declared.encoding.Encoding as reader
 use Rattle.json_read.specs.declared.place.Place.TheVariants.{At}
 use Rattle.json_read.proofs.JsonCatalogs.{codings_pushed, encoded_at}
 use Rattle.json_scan.specs.Spelling.{before}
 use Rattle.json_stream.proofs.SlotLemmas.{items_len-before}
-use Rattle.json_file.specs.Catalog.{HavePlaces, AreCodedBy}
-use Rattle.json_file.specs.Dictionary.{AreEntries, ids_in}
+use Rattle.json_file.specs.Prelude.{AreCodedBy, AreEntries, HavePlaces, ids_in}
 use Rattle.json_file.specs.declared.catalog.Dictionaries.{Dictionaries}
 use Rattle.json_file.specs.declared.dictionary.DictionaryEntry.{DictionaryEntry}
 

@@ -1,13 +1,9 @@
 -- The members of an entry one after another, the entry that they make, and entries one after another.
 use Rattle.std.proofs.Common.{◌≡◌, ◌≢◌, ◌∙◌, ℕ, ℤ, List, [], ◌∷◌, ◌++◌, Option, Some, None, option_and_then, Global, refl, sym, ap, subst}
 use Rattle.std.specs.declared.sync.Arc.{Arc}
-use Rattle.arrays.specs.Seen.{Seen}
-use Rattle.json_read.specs.Data.{Data, object, Members, put}
-use Rattle.json_read.specs.Find.{get_member}
-use Rattle.json_read.specs.JsonPath.{member_name}
+use Rattle.arrays.specs.Prelude.{Seen}
+use Rattle.json_read.specs.Prelude.{AreWordsOf, Data, Members, get_member, id_of, member_name, object, put}
 use Rattle.json_read.specs.Members as member
-use Rattle.json_read.specs.CatalogParts.{AreWordsOf}
-use Rattle.json_read.specs.JsonEncoding.{id_of}
 use Rattle.json_stream.proofs.ColumnLemmas.{here, there, no_member}
 use Rattle.json_file.specs.Dictionary.{IsEntry, IsId, AreWords, HoldsEntry, AreEntries}
 use Rattle.json_file.specs.declared.dictionary.DictionaryEntry.{DictionaryEntry}

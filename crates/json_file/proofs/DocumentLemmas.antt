@@ -1,25 +1,15 @@
 -- The members of a document one after another, and the file that they make.
 use Rattle.std.proofs.Common.{◌≡◌, ◌≢◌, ◌∙◌, ℕ, List, Option, Some, None, map, drop, option_and_then, refl, sym, ap, subst, arith}
-use Rattle.arrays.specs.Batch.{Batch}
-use Rattle.arrays.specs.File.{File}
-use Rattle.arrays.specs.Shape.{FieldShape}
-use Rattle.json_read.specs.Data.{Data, array, no_items, object, Members, put}
-use Rattle.json_read.specs.Find.{get_member, as_array}
-use Rattle.json_read.specs.JsonMember.{member_of, ReadsFirst}
-use Rattle.json_read.specs.JsonTable.{table_of}
-use Rattle.json_read.specs.JsonPath.{member_name}
+use Rattle.arrays.specs.Prelude.{Batch, FieldShape, File}
+use Rattle.json_read.specs.Prelude.{Coding, Data, HasCatalog, HasCoding, HasSchema, Members, ReadsBatch, ReadsFile, ReadsFirst, array, as_array, file_of, get_member, member_name, member_of, no_items, object, put, table_of}
 use Rattle.json_read.specs.Members as member
-use Rattle.json_read.specs.JsonBatch.{ReadsBatch}
-use Rattle.json_read.specs.JsonCatalog.{Coding, HasCatalog, HasCoding}
-use Rattle.json_read.specs.JsonFile.{HasSchema, ReadsFile, file_of}
 use Rattle.json_scan.specs.Spelling.{SpellsAt, before}
 use Rattle.json_scan.proofs.Values.{same_value}
 use Rattle.json_stream.specs.Column.{StandsOn}
 use Rattle.json_stream.specs.declared.column.Stretch.{Stretch}
 use Rattle.json_stream.proofs.ColumnLemmas.{first_apart, here, there, no_member}
 use Rattle.json_stream.proofs.SlotLemmas.{items_len-before}
-use Rattle.json_file.specs.Batches.{AreBatches}
-use Rattle.json_file.specs.Document.{HoldsDocument, HoldsFile, IsFileAt, StandsAt}
+use Rattle.json_file.specs.Prelude.{AreBatches, HoldsDocument, HoldsFile, IsFileAt, StandsAt}
 use Rattle.json_file.specs.declared.document.DocumentParts.{DocumentParts}
 use Rattle.json_file.specs.declared.document.FileAt.{FileAt}
 use Rattle.json_file.specs.declared.head.HeadPlaces.{HeadPlaces}

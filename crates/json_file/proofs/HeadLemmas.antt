@@ -1,22 +1,13 @@
 -- What is said before the batches, put together of its two members.
 use Rattle.std.proofs.Common.{◌≡◌, ◌∙◌, ℕ, List, length, Option, Some, None, option_and_then, refl, sym, ap, subst}
-use Rattle.arrays.specs.Shape.{FieldShape}
-use Rattle.json_read.specs.Data.{Data, object, no_members, put}
-use Rattle.json_read.specs.Find.{as_array}
-use Rattle.json_read.specs.JsonMember.{member_of}
-use Rattle.json_read.specs.JsonPath.{member_name}
+use Rattle.arrays.specs.Prelude.{FieldShape}
+use Rattle.json_read.specs.Prelude.{AreEncoded, Coding, Data, Encoding, HasCatalog, HasSchema, ReadsSchema, as_array, member_name, member_of, no_members, object, put}
 use Rattle.json_read.specs.Members as member
-use Rattle.json_read.specs.EncodingParts.{AreEncoded}
-use Rattle.json_read.specs.JsonCatalog.{Coding, HasCatalog}
-use Rattle.json_read.specs.JsonEncoding.{Encoding}
-use Rattle.json_read.specs.JsonFields.{ReadsSchema}
-use Rattle.json_read.specs.JsonFile.{HasSchema}
 use Rattle.json_read.proofs.JsonCatalogs.{catalog_read}
 use Rattle.json_read.proofs.JsonFiles.{encodings_listed}
 use Rattle.json_stream.specs.Column.{StandsOn}
 use Rattle.json_stream.proofs.ColumnLemmas.{here, there}
-use Rattle.json_file.specs.Catalog.{AreCodedBy}
-use Rattle.json_file.specs.Document.{StandsAt}
+use Rattle.json_file.specs.Prelude.{AreCodedBy, StandsAt}
 use Rattle.json_file.specs.declared.head.HeadPlaces.{HeadPlaces}
 use Rattle.json_file.proofs.DocumentLemmas.{schema_not_dictionaries}
 

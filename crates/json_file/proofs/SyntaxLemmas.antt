@@ -1,9 +1,7 @@
 -- Why there is no document where the grammar's own reader finds none.
 use Rattle.std.proofs.Common.{◌≡◌, ℕ, List, [], ◌∷◌, Option, Some, None, option_map, option_and_then, refl}
-use Rattle.json_scan.specs.Token.{Token}
-use Rattle.json_scan.specs.Lex.{tokens}
-use Rattle.json_scan.specs.Json.{Json, value, if_last, skip_value}
-use Rattle.json_read.specs.Read.{of_json, max_depth, read}
+use Rattle.json_scan.specs.Prelude.{Json, Token, if_last, skip_value, tokens, value}
+use Rattle.json_read.specs.Prelude.{max_depth, of_json, read}
 use Rattle.json_read.proofs.JsonTells.{tells_no_document, tells_wants}
 
 not_skipped : (o : Option (Json × List Token)) → option_map (λ p. p.1) o ≡ None → option_and_then of_json (option_and_then (λ p. if_last p.0 p.1) o) ≡ None

@@ -1,17 +1,9 @@
 -- The texts that a dictionary's batch holds.
 use Rattle.std.proofs.Common.{◌≡◌, ◌∙◌, List, [], ◌∷◌, ◌++◌, length, Option, Some, None, option_and_then, refl, sym, ap, subst}
-use Rattle.arrays.specs.OffsetWidths.{Narrow}
-use Rattle.arrays.specs.Kind.{utf8}
-use Rattle.arrays.specs.Seen.{Seen}
-use Rattle.arrays.specs.Shape.{FieldShape, kind_of_field}
-use Rattle.json_read.specs.Data.{Data, object, array, no_items, Members}
-use Rattle.json_read.specs.Find.{as_array}
-use Rattle.json_read.specs.JsonBatch.{HoldsColumn}
-use Rattle.json_read.specs.JsonColumn.{ReadsPlain, texts}
-use Rattle.json_read.specs.JsonDictionary.{WrapsTexts, wrapped}
+use Rattle.arrays.specs.Prelude.{FieldShape, Narrow, Seen, kind_of_field, utf8}
+use Rattle.json_read.specs.Prelude.{Data, HoldsColumn, Members, ReadsPlain, WrapsTexts, array, as_array, no_items, object, texts, wrapped}
 use Rattle.json_scan.specs.Spelling.{before}
-use Rattle.json_stream.specs.Batch.{HasMembers}
-use Rattle.json_stream.specs.Columns.{AreReadColumns}
+use Rattle.json_stream.specs.Prelude.{AreReadColumns, HasMembers}
 use Rattle.json_stream.specs.declared.batch.BatchMembers.{BatchMembers}
 use Rattle.json_stream.proofs.BatchLemmas.{column_alone}
 use Rattle.json_stream.proofs.ColumnLemmas.{top_plain}

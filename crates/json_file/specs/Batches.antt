@@ -1,13 +1,7 @@
 -- The batches of a file, one after another. (Arrow integration testing, "JSON test data format")
 use Rattle.std.specs.Prelude.{List, length, map, Option}
-use Rattle.arrays.specs.Batch.{Batch}
-use Rattle.arrays.specs.Shape.{FieldShape}
-use Rattle.json_read.specs.Data.{Data, no_items}
-use Rattle.json_read.specs.JsonMember.{ReadsFirst}
-use Rattle.json_read.specs.JsonTable.{table_of}
-use Rattle.json_read.specs.JsonBatch.{ReadsBatch}
-use Rattle.json_read.specs.JsonCatalog.{Coding}
-use Rattle.json_read.specs.JsonFile.{AreUnder}
+use Rattle.arrays.specs.Prelude.{Batch, FieldShape}
+use Rattle.json_read.specs.Prelude.{AreUnder, Coding, Data, ReadsBatch, ReadsFirst, no_items, table_of}
 use Rattle.json_scan.specs.Spelling.{before}
 
 -- A batch under the fields for each value.

@@ -1,11 +1,6 @@
 -- How columns are encoded, by the dictionaries of a file. (Arrow integration testing, "JSON test data format", DictionaryBatch)
 use Rattle.std.specs.Prelude.{◌≡◌, ℤ, List, length, Option, Some, option_and_then}
-use Rattle.json_read.specs.Data.{Data, Items}
-use Rattle.json_read.specs.Find.{as_array}
-use Rattle.json_read.specs.JsonMember.{ReadsEach}
-use Rattle.json_read.specs.CatalogParts.{AreCodings, HasSome}
-use Rattle.json_read.specs.JsonCatalog.{Coding, HasId}
-use Rattle.json_read.specs.JsonEncoding.{Encoding}
+use Rattle.json_read.specs.Prelude.{AreCodings, Coding, Data, Encoding, HasId, HasSome, Items, ReadsEach, as_array}
 use Rattle.json_read.specs.PlaceParts as place
 use Rattle.json_file.specs.Dictionary.{ids_in}
 use Rattle.json_file.specs.declared.catalog.Dictionaries.{Dictionaries}

@@ -3,16 +3,9 @@ use Rattle.std.specs.Prelude.{◌≡◌, ℤ, List, length, map, Option, Some, N
 use Rattle.std.specs.Arc.{arc_value}
 use Rattle.std.specs.declared.alloc.Global.{Global}
 use Rattle.std.specs.declared.sync.Arc.{Arc}
-use Rattle.arrays.specs.Seen.{Seen}
-use Rattle.json_read.specs.Data.{Data, Members, no_items}
-use Rattle.json_read.specs.Find.{get_member}
-use Rattle.json_read.specs.JsonMember.{ReadsFirst}
-use Rattle.json_read.specs.JsonPath.{member_name}
+use Rattle.arrays.specs.Prelude.{Seen}
+use Rattle.json_read.specs.Prelude.{AreWordsOf, Data, HasId, Members, ReadsFirst, WrapsTexts, get_member, id_of, member_name, no_items}
 use Rattle.json_read.specs.Members as member
-use Rattle.json_read.specs.CatalogParts.{AreWordsOf}
-use Rattle.json_read.specs.JsonCatalog.{HasId}
-use Rattle.json_read.specs.JsonDictionary.{WrapsTexts}
-use Rattle.json_read.specs.JsonEncoding.{id_of}
 use Rattle.json_scan.specs.Spelling.{before}
 use Rattle.json_file.specs.declared.dictionary.DictionaryEntry.{DictionaryEntry}
 use Rattle.json_file.specs.declared.dictionary.EntryParts.{EntryParts}

@@ -1,15 +1,8 @@
 -- The members of a document, as far as they are read. (Arrow integration testing, "JSON test data format")
 use Rattle.std.specs.Prelude.{◌≡◌, ℕ, List, map, Option, Some, None, option_and_then}
 use Rattle.arrays.specs.File.{File}
-use Rattle.json_read.specs.Data.{Data, Items, Members}
-use Rattle.json_read.specs.Find.{get_member, as_array}
-use Rattle.json_read.specs.JsonMember.{member_of, ReadsEach}
-use Rattle.json_read.specs.JsonPath.{member_name}
-use Rattle.json_read.specs.JsonTable.{table_of}
+use Rattle.json_read.specs.Prelude.{AreUnder, Coding, Data, HasCatalog, HasSchema, Items, Members, ReadsBatch, ReadsEach, as_array, get_member, member_name, member_of, table_of}
 use Rattle.json_read.specs.Members as member
-use Rattle.json_read.specs.JsonBatch.{ReadsBatch}
-use Rattle.json_read.specs.JsonCatalog.{Coding, HasCatalog}
-use Rattle.json_read.specs.JsonFile.{AreUnder, HasSchema}
 use Rattle.json_stream.specs.Column.{StandsOn}
 use Rattle.json_file.specs.declared.document.DocumentParts.{DocumentParts}
 use Rattle.json_file.specs.declared.document.FileAt.{FileAt}

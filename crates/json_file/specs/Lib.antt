@@ -4,3 +4,4 @@ pub mod Dictionary
 pub mod Catalog
 pub mod Batches
 pub mod Document
+pub mod Prelude

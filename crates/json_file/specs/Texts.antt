@@ -1,9 +1,7 @@
 -- The texts of a dictionary, as far as they are read. (Arrow integration testing, "JSON test data format", DictionaryBatch)
 use Rattle.std.specs.Prelude.{◌≡◌, List, [], ◌∷◌, Option, Some, None}
-use Rattle.arrays.specs.Kind.{utf8}
-use Rattle.arrays.specs.Seen.{Seen}
-use Rattle.json_read.specs.Data.{Data}
-use Rattle.json_read.specs.JsonDictionary.{ReadsTexts}
+use Rattle.arrays.specs.Prelude.{Seen, utf8}
+use Rattle.json_read.specs.Prelude.{Data, ReadsTexts}
 
 -- An array of the texts of a batch object.
 pub record IsBatchOfTexts (d : Data) (a : Seen) : Type 0 where

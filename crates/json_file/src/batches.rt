@@ -2,10 +2,7 @@
 
 ghost use Rattle.std.specs.Prelude.{◌≡◌, ◌<◌, ◌≤◌, List, length, drop, map, option_map, IfOk};
 ghost use Rattle.std.specs.Arc.{arc_value};
-ghost use Rattle.json_read.specs.Data.{Data, array, no_items};
-ghost use Rattle.json_read.specs.JsonTable.{table_of};
-ghost use Rattle.json_read.specs.CatalogParts.{coding_of};
-ghost use Rattle.json_read.specs.JsonBatch.{ReadsBatch};
+ghost use Rattle.json_read.specs.Prelude.{Data, ReadsBatch, array, coding_of, no_items, table_of};
 ghost use Rattle.json_scan.specs.Spelling.{SpellsAt, before};
 ghost use Rattle.json_stream.specs.Cursor.{HasValue, IsBehind};
 ghost use Rattle.json_file.specs.Batches.{AreBatches};

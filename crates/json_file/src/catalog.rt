@@ -2,10 +2,7 @@
 
 ghost use Rattle.std.specs.Prelude.{◌≡◌, List, Option, Some, length, map, option_map, IfOk, OnOk};
 ghost use Rattle.std.specs.Arc.{arc_value};
-ghost use Rattle.json_read.specs.Data.{Data, array, no_items};
-ghost use Rattle.json_read.specs.CatalogParts.{AreCodings, HasSome, IsCoding, coding_of};
-ghost use Rattle.json_read.specs.EncodingParts.{parts_of};
-ghost use Rattle.json_read.specs.JsonCatalog.{HasDictionary};
+ghost use Rattle.json_read.specs.Prelude.{AreCodings, Data, HasDictionary, HasSome, IsCoding, array, coding_of, no_items, parts_of};
 ghost use Rattle.json_scan.specs.Spelling.{before};
 ghost use Rattle.json_stream.specs.Column.{StandsOn};
 ghost use Rattle.json_file.specs.Catalog.{HavePlaces, AreCodedBy};

@@ -2,9 +2,7 @@
 
 ghost use Rattle.std.specs.Prelude.{◌≡◌, ◌<◌, ◌≤◌, List, Some, length, drop, IfOk, IfSome};
 ghost use Rattle.std.specs.Arc.{arc_value};
-ghost use Rattle.json_read.specs.Data.{Data};
-ghost use Rattle.json_read.specs.JsonDictionary.{WrapsTexts};
-ghost use Rattle.json_read.specs.JsonEncoding.{id_of};
+ghost use Rattle.json_read.specs.Prelude.{Data, WrapsTexts, id_of};
 ghost use Rattle.json_scan.specs.Spelling.{Spells};
 ghost use Rattle.json_stream.specs.Cursor.{HasValue, HasValues, IsBehind};
 ghost use Rattle.json_file.specs.Dictionary.{AreEntries, AreWords, IsEntry};

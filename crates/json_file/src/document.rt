@@ -1,10 +1,8 @@
 //! The document of a file: its members in any order, of those of one name the last.
 
 ghost use Rattle.std.specs.Prelude.{◌≡◌, ◌<◌, ◌≤◌, Option, Some, length, drop, IfOk, IfSome};
-ghost use Rattle.json_read.specs.Data.{Data, Members, object};
-ghost use Rattle.json_read.specs.JsonFile.{AreUnder, Reads, ReadsFile, file_of};
-ghost use Rattle.json_stream.specs.Column.{StandsOn};
-ghost use Rattle.json_stream.specs.Cursor.{HasValue, IsBehind};
+ghost use Rattle.json_read.specs.Prelude.{AreUnder, Data, Members, Reads, ReadsFile, file_of, object};
+ghost use Rattle.json_stream.specs.Prelude.{HasValue, IsBehind, StandsOn};
 ghost use Rattle.json_file.specs.Document.{HoldsDocument, HoldsFile, IsFileAt, StandsAt};
 
 use crate::batches::read_batches;

@@ -1,8 +1,7 @@
 //! Files, without a tree where that can be.
 
 ghost use Rattle.std.specs.Prelude.{IfOk, IfErr};
-ghost use Rattle.json_read.specs.FaultAt.{Tells};
-ghost use Rattle.json_read.specs.JsonFile.{AreUnder, BytesFault, Reads, file_of};
+ghost use Rattle.json_read.specs.Prelude.{AreUnder, BytesFault, Reads, Tells, file_of};
 
 use crate::document::read_text;
 use crate::syntax::check_json;

@@ -2,15 +2,8 @@
 
 ghost use Rattle.std.specs.Prelude.{map, option_map, Some, IfOk};
 ghost use Rattle.std.specs.Arc.{arc_value};
-ghost use Rattle.json_read.specs.Data.{Data};
-ghost use Rattle.json_read.specs.View.{view};
-ghost use Rattle.json_read.specs.CatalogParts.{coding_of};
-ghost use Rattle.json_read.specs.EncodingParts.{AreEncoded, parts_of};
-ghost use Rattle.json_read.specs.JsonCatalog.{HasCatalog};
-ghost use Rattle.json_read.specs.JsonFields.{ReadsSchema};
-ghost use Rattle.json_read.specs.JsonFile.{HasSchema};
-ghost use Rattle.json_stream.specs.Column.{StandsOn};
-ghost use Rattle.json_stream.specs.Cursor.{HasValue, IsBehind};
+ghost use Rattle.json_read.specs.Prelude.{AreEncoded, Data, HasCatalog, HasSchema, ReadsSchema, coding_of, parts_of, view};
+ghost use Rattle.json_stream.specs.Prelude.{HasValue, IsBehind, StandsOn};
 ghost use Rattle.json_file.specs.Document.{StandsAt};
 
 use crate::catalog::read_catalog;

@@ -1,9 +1,7 @@
 //! Whether bytes are JSON at all, seen without a tree.
 
 ghost use Rattle.std.specs.Prelude.{◌≡◌, false, None, IfOk, IfErr};
-ghost use Rattle.json_read.specs.Read.{read};
-ghost use Rattle.json_read.specs.FaultAt.{Tells};
-ghost use Rattle.json_read.specs.JsonMember.{NoDocument};
+ghost use Rattle.json_read.specs.Prelude.{NoDocument, Tells, read};
 
 use crate::document::MAX_DEPTH;
 use arrays::NoMemory;

@@ -1,8 +1,7 @@
 //! The texts of a dictionary.
 
 ghost use Rattle.std.specs.Prelude.{◌≡◌, ◌∷◌, [], length, IfOk, IfSome};
-ghost use Rattle.arrays.specs.Kind.{utf8};
-ghost use Rattle.arrays.specs.Shape.{field_of, kind_of_field};
+ghost use Rattle.arrays.specs.Prelude.{field_of, kind_of_field, utf8};
 ghost use Rattle.json_read.specs.JsonDictionary.{WrapsTexts};
 ghost use Rattle.json_stream.specs.Cursor.{HasValue, IsBehind};
 ghost use Rattle.json_file.specs.Texts.{IsBatchOfTexts};

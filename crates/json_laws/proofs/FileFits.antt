@@ -3,20 +3,13 @@ use Rattle.std.proofs.Common.{◌≡◌, ℕ, ◌<◌, ◌^◌, List, [], ◌∷
 use Rattle.std.specs.Prelude.{sum_by}
 use Rattle.std.specs.List.{AllByRecursion}
 use Rattle.std.proofs.lemmas.Bool.{ltb-false}
-use Rattle.arrays.specs.Item.{Item}
-use Rattle.arrays.specs.OffsetWidth.{OffsetWidth}
-use Rattle.arrays.specs.OffsetWidths.{Narrow, Wide}
+use Rattle.arrays.specs.Prelude.{FieldShape, IsItemOf, Item, Narrow, OffsetWidth, Shape, Wide, depth, dict, field, inner_items, is_too_big, kind_of_field, kind_of_shape, text_bytes}
 use Rattle.arrays.specs.Kind as kind
-use Rattle.arrays.specs.Kind.{depth}
-use Rattle.arrays.specs.Lengths.{inner_items, is_too_big, text_bytes}
 use Rattle.arrays.specs.Shape as shape
-use Rattle.arrays.specs.Shape.{Shape, FieldShape, int, boolean, dict, field, kind_of_field, kind_of_shape}
-use Rattle.arrays.specs.Typed.{IsItemOf}
+use Rattle.arrays.specs.Shape.{int, boolean}
 use Rattle.json_base.specs.JsonTable.{Table}
-use Rattle.json_print.specs.ColumnData.{item_length}
-use Rattle.json_print.specs.Dictionaries.{dictionaries_from}
+use Rattle.json_print.specs.Prelude.{AreShallow, FitColumns, FitDictionaries, FitTables, FitsField, FitsFile, FitsOffset, FitsShape, dictionaries_from, item_length}
 use Rattle.json_laws.specs.IsFile.{AreColumns, AreShort, IsField, IsFile, IsTable}
-use Rattle.json_print.specs.Fits.{AreShallow, FitColumns, FitDictionaries, FitTables, FitsField, FitsOffset, FitsFile, FitsShape}
 use Rattle.arrays.proofs.SizeLemmas.{small}
 use Rattle.json_print.proofs.Columns.{inner_few, inner_typed, list_sizes, text_sizes}
 

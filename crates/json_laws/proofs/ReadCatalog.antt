@@ -5,27 +5,16 @@ use Rattle.std.specs.List.{AllByRecursion}
 use Rattle.std.proofs.lemmas.List.{length-map}
 use Rattle.std.proofs.lemmas.List.Sums.{sum_by-cons}
 use Rattle.std.proofs.lemmas.Bool.{le-ltb, or_right}
-use Rattle.arrays.specs.Limits.{most_slots}
-use Rattle.arrays.specs.OffsetWidths.{Narrow}
-use Rattle.arrays.specs.Item.{text}
+use Rattle.arrays.specs.Prelude.{FieldShape, IsItemOf, Kind, Narrow, dict, field, int32, kind_of_field, most_slots, text, text_bytes, text_length}
 use Rattle.arrays.specs.Kind as kind
-use Rattle.arrays.specs.Kind.{Kind, int32}
-use Rattle.arrays.specs.Lengths.{text_bytes, text_length}
 use Rattle.arrays.specs.Shape as shape
-use Rattle.arrays.specs.Shape.{FieldShape, int, boolean, dict, field, kind_of_field}
-use Rattle.arrays.specs.Typed.{IsItemOf}
+use Rattle.arrays.specs.Shape.{int, boolean}
 use Rattle.pool.specs.Texts.{byte_count}
-use Rattle.json_base.specs.Data.{Data, array, object, Items, member}
-use Rattle.json_base.specs.Find.{as_array, get_item}
+use Rattle.json_base.specs.Prelude.{Data, Items, array, as_array, get_item, member, member_of, object}
 use Rattle.json_base.specs.declared.path.Member.TheVariants as at_member
-use Rattle.json_read.specs.JsonCatalog.{Coding, HasCatalog, HasCoding, HasDictionary, HasEntries, HasId, listed_fields}
-use Rattle.json_read.specs.JsonColumn.{ReadsPlain, texts as texts_spelled}
-use Rattle.json_read.specs.JsonDictionary.{ReadsEntry, bare}
-use Rattle.json_base.specs.JsonMember.{member_of}
-use Rattle.json_print.specs.ColumnData.{text_column}
-use Rattle.json_print.specs.DictionaryData.{entries_data, entry_data, text_batch, text_items, with_field}
-use Rattle.json_print.specs.SchemaData.{dictionary_data, field_data, fields_data, schema_data}
-use Rattle.json_print.specs.Text.{has_dictionary, is_encoded, last_members}
+use Rattle.json_read.specs.Prelude.{Coding, HasCatalog, HasCoding, HasDictionary, HasEntries, HasId, ReadsEntry, ReadsPlain, bare, listed_fields}
+use Rattle.json_read.specs.JsonColumn.{texts as texts_spelled}
+use Rattle.json_print.specs.Prelude.{dictionary_data, entries_data, entry_data, field_data, fields_data, has_dictionary, is_encoded, last_members, schema_data, text_batch, text_column, text_items, with_field}
 use Rattle.json_laws.proofs.ReadColumns.{text_column_read}
 use Rattle.json_laws.proofs.ReadEach.{AreRead, each_read}
 use Rattle.json_laws.proofs.ReadNumbers.{count_read, id_read}

@@ -11,19 +11,14 @@ use Rattle.std.proofs.lemmas.Slice.Eq.{bytes_eq-Decides}
 use Rattle.std.proofs.lemmas.Cmp.{nat_list_eq_equiv}
 use Rattle.std.proofs.lemmas.Bool.{or_right, or_left}
 use Rattle.arrays.specs.Item as column
-use Rattle.arrays.specs.Item.{Item}
+use Rattle.arrays.specs.Prelude.{IsItemOf, Item, int32}
 use Rattle.arrays.specs.Kind as kind
-use Rattle.arrays.specs.Kind.{int32}
-use Rattle.arrays.specs.Typed.{IsItemOf}
 use Rattle.pool.specs.Texts.{firsts, is_among, text_of, texts_of}
 use Rattle.pool.proofs.PlaceLemmas.{among_place, position_found}
 use Rattle.pool.proofs.TextLemmas.{is_among-firsts}
 use Rattle.json_base.specs.JsonTable.{Table}
 use Rattle.json_read.specs.JsonCodes.{ReadsCodes, entry_at, indices}
-use Rattle.json_print.specs.ColumnData.{code_data, plain_column}
-use Rattle.json_print.specs.Dictionaries.{column_at, column_items}
-use Rattle.json_print.specs.DictionaryData.{text_items}
-use Rattle.json_print.specs.Slots.{code_in}
+use Rattle.json_print.specs.Prelude.{code_data, code_in, column_at, column_items, plain_column, text_items}
 use Rattle.json_laws.proofs.ReadNumbers.{index_read}
 use Rattle.json_laws.proofs.ReadSlots.{IsSpelled, plain_read}
 

@@ -2,21 +2,15 @@
 use Rattle.std.proofs.Common.{◌≡◌, ℕ, ◌<◌, ◌≤◌, ◌^◌, List, [], ◌∷◌, length, false, Some, option_map, refl, ap, subst, arith}
 use Rattle.std.specs.List.{AllByRecursion}
 use Rattle.std.proofs.lemmas.Bool.{ltb-false}
-use Rattle.arrays.specs.IntType.{IntType}
-use Rattle.arrays.specs.OffsetWidth.{OffsetWidth}
+use Rattle.arrays.specs.Prelude.{FieldShape, IntType, IsItemOf, Item, Kind, OffsetWidth, Shape, depth, dict, ends_in_dict, field, has_dict_in_list, inner_items, is_too_big, kind_of_field, kind_of_shape, lists, texts}
 use Rattle.arrays.specs.Item as column
-use Rattle.arrays.specs.Item.{Item}
 use Rattle.arrays.specs.Kind as kind
-use Rattle.arrays.specs.Kind.{Kind, depth, ends_in_dict, has_dict_in_list}
-use Rattle.arrays.specs.Lengths.{inner_items, is_too_big}
-use Rattle.arrays.specs.Shape.{Shape, FieldShape, int, boolean, texts, lists, dict, field, kind_of_field, kind_of_shape}
-use Rattle.arrays.specs.Typed.{IsItemOf}
-use Rattle.json_base.specs.Data.{Data}
+use Rattle.arrays.specs.Shape.{int, boolean}
+use Rattle.json_base.specs.Prelude.{Data}
 use Rattle.json_read.specs.JsonBatch.{ReadsColumn}
 use Rattle.json_read.specs.JsonColumn.{ReadsPlain, Spelling, numbers, texts as texts_spelled, truths}
 use Rattle.json_read.proofs.JsonLists.{column_plain}
-use Rattle.json_print.specs.ColumnData.{column_data, each, number_data, shaped_column, text_column, text_data, truth_data, valid_data}
-use Rattle.json_print.specs.Text.{is_encoded}
+use Rattle.json_print.specs.Prelude.{column_data, each, is_encoded, number_data, shaped_column, text_column, text_data, truth_data, valid_data}
 use Rattle.json_laws.specs.IsFile.{IsColumn, IsField}
 use Rattle.json_print.proofs.Columns.{inner_few, inner_typed}
 use Rattle.json_laws.proofs.ReadLists.{list_column_read}

@@ -1,10 +1,7 @@
 -- Items that are read one by one.
 use Rattle.std.proofs.Common.{◌≡◌, ℕ, zero, suc, List, [], ◌∷◌, length, Some, refl, ap}
 use Rattle.std.specs.Prelude.{slice_get, ⊤}
-use Rattle.json_base.specs.Data.{Data, Items, no_items, item}
-use Rattle.json_base.specs.Events.{items_len}
-use Rattle.json_base.specs.Find.{get_item}
-use Rattle.json_base.specs.JsonMember.{ReadsEach}
+use Rattle.json_base.specs.Prelude.{Data, Items, ReadsEach, get_item, item, items_len, no_items}
 use Rattle.json_base.proofs.JsonItems.{moved}
 
 -- As many items as values, each read as its value.

@@ -3,32 +3,17 @@ use Rattle.std.proofs.Common.{◌≡◌, ◌∙◌, ℕ, zero, suc, ◌+◌, ◌
 use Rattle.std.specs.Prelude.{IsUtf8, slice_get}
 use Rattle.std.specs.List.{AllByRecursion}
 use Rattle.std.proofs.lemmas.Option.{get_or_from_slice_get, slice_get_within}
-use Rattle.arrays.specs.File.{File}
-use Rattle.arrays.specs.Item.{Item}
+use Rattle.arrays.specs.Prelude.{FieldShape, File, Item, Kind, dict, field, int32, kind_of_field}
 use Rattle.arrays.specs.Kind as kind
-use Rattle.arrays.specs.Kind.{Kind, int32}
 use Rattle.arrays.specs.Shape as shape
-use Rattle.arrays.specs.Shape.{FieldShape, int, boolean, dict, field, kind_of_field}
+use Rattle.arrays.specs.Shape.{int, boolean}
 use Rattle.pool.specs.Texts.{firsts, texts_of}
-use Rattle.json_base.specs.Data.{Data}
-use Rattle.json_base.specs.Events.{items_len}
-use Rattle.json_base.specs.Find.{as_array, get_item}
-use Rattle.json_base.specs.JsonTable.{Table, tables_of}
+use Rattle.json_base.specs.Prelude.{Data, Table, as_array, get_item, items_len, member_of, tables_of}
 use Rattle.json_base.specs.declared.path.Member.TheVariants as at_member
-use Rattle.json_read.specs.JsonBatch.{ReadsBatch, ReadsTop}
-use Rattle.json_read.specs.JsonCatalog.{Coding, listed_fields}
-use Rattle.json_read.specs.JsonCodes.{ReadsCodes}
-use Rattle.json_read.specs.JsonFile.{Reads, ReadsFile, file_of}
-use Rattle.json_base.specs.JsonMember.{member_of}
+use Rattle.json_read.specs.Prelude.{Coding, Reads, ReadsBatch, ReadsCodes, ReadsFile, ReadsTop, file_of, listed_fields}
 use Rattle.json_base.proofs.MemberLaws.{slice_get_some}
-use Rattle.json_print.specs.BatchData.{batch_data, batches_data, columns_data}
-use Rattle.json_print.specs.ColumnData.{code_data, column_data, plain_column}
-use Rattle.json_print.specs.Dictionaries.{column_at, column_items, dictionaries_from, dictionary_of}
-use Rattle.json_print.specs.DictionaryData.{text_items}
-use Rattle.json_print.specs.SchemaData.{fields_data, schema_data}
-use Rattle.json_print.specs.Slots.{code_in}
+use Rattle.json_print.specs.Prelude.{batch_data, batches_data, code_data, code_in, column_at, column_data, column_items, columns_data, dictionaries_from, dictionary_of, document, fields_data, has_dictionary, plain_column, schema_data, text_items}
 use Rattle.json_print.specs.Text as printed
-use Rattle.json_print.specs.Text.{document, has_dictionary}
 use Rattle.json_print.proofs.Texts.{length-dictionaries_from}
 use Rattle.json_laws.specs.IsFile.{AreColumns, AreShort, IsColumn, IsField, IsFile, IsTable}
 use Rattle.json_laws.proofs.FileFits.{file_fits}

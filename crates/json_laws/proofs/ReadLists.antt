@@ -5,19 +5,12 @@ use Rattle.std.specs.List.{AllByRecursion}
 use Rattle.std.proofs.lemmas.Bool.Decides.{nat_tests}
 use Rattle.std.proofs.lemmas.List.Sums.{sum_by-cons}
 use Rattle.std.proofs.Math.Seq.{drop-append-add, take-append_seam}
-use Rattle.arrays.specs.Slice.{slice}
-use Rattle.arrays.specs.Seen.{Seen, no_entries}
-use Rattle.arrays.specs.OffsetWidth.{OffsetWidth}
+use Rattle.arrays.specs.Prelude.{IsItemOf, Item, Kind, OffsetWidth, Seen, depth, inner_items, is_null, items_in, length_at, no_entries, same_kind, slice, slot_at}
 use Rattle.arrays.specs.Item as column
-use Rattle.arrays.specs.Item.{Item, is_null}
 use Rattle.arrays.specs.Kind as kind
-use Rattle.arrays.specs.Kind.{Kind, depth, same_kind}
-use Rattle.arrays.specs.Lengths.{inner_items, items_in}
-use Rattle.arrays.specs.Offsets.{length_at, slot_at}
-use Rattle.arrays.specs.Typed.{IsItemOf}
 use Rattle.arrays.proofs.ListArrays.{read_lists}
 use Rattle.arrays.proofs.ListLemmas.{list_of-items_of}
-use Rattle.json_base.specs.Data.{Data}
+use Rattle.json_base.specs.Prelude.{Data}
 use Rattle.json_read.specs.JsonList.{IsListColumn, ReadsLists, are_enough, list_slot, lists_fault, offset_bytes}
 use Rattle.json_read.proofs.JsonLists.{lists_fault-is}
 use Rattle.json_print.specs.ColumnData.{each, item_length, list_column, offsets_data, valid_data}

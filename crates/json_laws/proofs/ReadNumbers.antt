@@ -10,15 +10,10 @@ use Rattle.std.proofs.lemmas.Bool.Decides.{nat_tests}
 use Rattle.std.proofs.lemmas.Fmt.{decimal_is_IsNumeral}
 use Rattle.std.proofs.lemmas.Int.{ints}
 use Rattle.std.proofs.lemmas.Str.Parse.{digit_from_value}
-use Rattle.arrays.specs.IntType.{IntType}
-use Rattle.arrays.specs.Width.{Width}
-use Rattle.arrays.specs.Widths.{W8, W16, W32, W64}
-use Rattle.arrays.specs.Kind.{int32}
-use Rattle.arrays.specs.Number.{IsOfType, is_of_type}
+use Rattle.arrays.specs.Prelude.{IntType, IsOfType, W16, W32, W64, W8, Width, int32, is_of_type}
 use Rattle.json_base.specs.JsonNumber.{count_of, fitting, flag_of, integer_of, numeral, spelled, whole_of}
 use Rattle.json_read.specs.JsonEncoding.{id_of}
-use Rattle.json_print.specs.ColumnData.{flag_data, int_data}
-use Rattle.json_print.specs.Written.{natural}
+use Rattle.json_print.specs.Prelude.{flag_data, int_data, natural}
 use Rattle.json_print.proofs.Ranges.{high_of, low_of}
 
 -- ---- numbers as texts

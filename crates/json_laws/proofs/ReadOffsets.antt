@@ -7,20 +7,11 @@ use Rattle.std.proofs.lemmas.List.Sums.{sum_by-cons, sum_by_more}
 use Rattle.std.proofs.lemmas.Option.{get_or_from_slice_get, slice_get_within}
 use Rattle.std.proofs.Math.Nat.{suc-mul}
 use Rattle.std.proofs.Math.Seq.{take-length}
-use Rattle.arrays.specs.IntType.{IntType}
-use Rattle.arrays.specs.OffsetWidth.{OffsetWidth}
-use Rattle.arrays.specs.OffsetWidths.{Narrow, Wide}
-use Rattle.arrays.specs.OffsetSize.{offset_type, size_of}
-use Rattle.arrays.specs.Number.{IsOfType, bytes_of_number, is_negative, natural as natural_of, number_at}
+use Rattle.arrays.specs.Prelude.{AreOffsetBytes, IntType, IsOfType, Item, Narrow, OffsetWidth, Wide, bytes_of_number, is_negative, length_at, number_at, offset_type, size_of, start_at}
+use Rattle.arrays.specs.Number.{natural as natural_of}
 use Rattle.arrays.proofs.EncodingLemmas.{length-bytes_of_number, number_at-append-end, number_at-append-front, number_at-append-past}
 use Rattle.arrays.specs.Item as column
-use Rattle.arrays.specs.Item.{Item}
-use Rattle.arrays.specs.Offsets.{AreOffsetBytes, length_at, start_at}
-use Rattle.json_base.specs.Data.{Data}
-use Rattle.json_base.specs.Events.{items_len}
-use Rattle.json_base.specs.Find.{get_item}
-use Rattle.json_base.specs.JsonNumber.{integer_of}
-use Rattle.json_base.specs.JsonMember.{ReadsEach}
+use Rattle.json_base.specs.Prelude.{Data, ReadsEach, get_item, integer_of, items_len}
 use Rattle.json_read.specs.JsonList.{SpellsOffset, offset_bytes}
 use Rattle.json_print.specs.ColumnData.{item_length, offset_data, offsets_data}
 use Rattle.json_laws.proofs.ReadNumbers.{number_read}

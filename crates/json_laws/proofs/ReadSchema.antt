@@ -1,19 +1,10 @@
 -- A schema reads back as its fields.
 use Rattle.std.proofs.Common.{◌≡◌, ℕ, suc, ◌+◌, ◌*◌, ◌<◌, ◌≤◌, ◌^◌, pos, List, [], ◌∷◌, length, Bool, false, Some, refl, ap, arith}
 use Rattle.std.specs.List.{AllByRecursion}
-use Rattle.arrays.specs.IntType.{IntType}
-use Rattle.arrays.specs.Width.{Width}
-use Rattle.arrays.specs.Widths.{W8, W16, W32, W64}
-use Rattle.arrays.specs.OffsetWidth.{OffsetWidth}
-use Rattle.arrays.specs.OffsetWidths.{Narrow, Wide}
-use Rattle.arrays.specs.Kind.{bytes_of, ends_in_dict, int32}
-use Rattle.arrays.specs.Schema.{holds_dict, is_deep}
-use Rattle.arrays.specs.Shape.{FieldShape, int, boolean, texts, lists, dict, field, kind_of_field}
-use Rattle.json_base.specs.Data.{unsigned}
-use Rattle.json_base.specs.JsonNumber.{width_of}
-use Rattle.json_read.specs.JsonEncoding.{IsEncoding}
-use Rattle.json_read.specs.JsonFields.{ReadsField, ReadsSchema, encoded_field, plain_field}
-use Rattle.json_read.specs.JsonSchema.{HasField, IsFieldOf, ReadsInt, lists_name, texts_name}
+use Rattle.arrays.specs.Prelude.{FieldShape, IntType, Narrow, OffsetWidth, W16, W32, W64, W8, Wide, Width, bytes_of, dict, ends_in_dict, field, holds_dict, int32, is_deep, kind_of_field, lists, texts}
+use Rattle.arrays.specs.Shape.{int, boolean}
+use Rattle.json_base.specs.Prelude.{unsigned, width_of}
+use Rattle.json_read.specs.Prelude.{HasField, IsEncoding, IsFieldOf, ReadsField, ReadsInt, ReadsSchema, encoded_field, lists_name, plain_field, texts_name}
 use Rattle.json_print.specs.SchemaData.{dictionary_data, field_data, fields_data, int_type, list_name, schema_data, text_name, type_data}
 use Rattle.json_laws.specs.IsFile.{IsField}
 use Rattle.json_laws.proofs.ReadEach.{AreRead, each_read}

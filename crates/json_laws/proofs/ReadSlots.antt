@@ -3,10 +3,8 @@ use Rattle.std.proofs.Common.{◌≡◌, ◌∙◌, ℕ, zero, suc, ◌<◌, ◌
 use Rattle.std.specs.Prelude.{slice_get}
 use Rattle.std.specs.List.{AllByRecursion}
 use Rattle.arrays.specs.Item as column
-use Rattle.arrays.specs.Item.{Item, is_null}
-use Rattle.json_base.specs.Data.{Data}
-use Rattle.json_base.specs.Events.{items_len}
-use Rattle.json_base.specs.Find.{get_item}
+use Rattle.arrays.specs.Prelude.{Item, is_null}
+use Rattle.json_base.specs.Prelude.{Data, get_item, items_len}
 use Rattle.json_read.specs.JsonColumn.{ReadsPlain, ReadsSlots, Spelling, overflows, slot_of, flagged_at}
 use Rattle.json_print.specs.ColumnData.{each, plain_column, valid_data}
 use Rattle.json_laws.proofs.ReadNumbers.{count_read, flag_read}

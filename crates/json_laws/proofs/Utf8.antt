@@ -7,8 +7,7 @@ use Rattle.std.proofs.lemmas.Bool.Decides.{nat_tests}
 use Rattle.std.proofs.lemmas.Str.{IsUtf8-append, IsUtf8-from_ascii, IsUtf8-nil}
 use Rattle.json.proofs.Printed.Utf8.{IsUtf8-are_ascii, IsUtf8-boolean, IsUtf8-quoted}
 use Rattle.json.specs.Print.{quoted}
-use Rattle.json_base.specs.Data.{Num, unsigned, negative, float, Data, null, boolean, number, string, array, object, Items, no_items, item, Members, no_members, member}
-use Rattle.json_base.specs.Written.{comma_if, compact_text, items_text, members_text, number_text}
+use Rattle.json_base.specs.Prelude.{Data, Items, Members, Num, array, boolean, comma_if, compact_text, float, item, items_text, member, members_text, negative, no_items, no_members, null, number, number_text, object, string, unsigned}
 use Rattle.json_print.specs.Plain.{ArePlain, ArePlainMembers, IsPlain, IsWhole}
 
 -- Its strings and names are UTF-8.

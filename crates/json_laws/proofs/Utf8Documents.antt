@@ -4,30 +4,14 @@ use Rattle.std.specs.Prelude.{IsUtf8, slice_get}
 use Rattle.std.specs.List.{AllByRecursion}
 use Rattle.std.specs.Str.{bytes_eq}
 use Rattle.json.proofs.Printed.Utf8.{IsUtf8-are_ascii}
-use Rattle.arrays.specs.IntType.{IntType}
-use Rattle.arrays.specs.Width.{Width}
-use Rattle.arrays.specs.Widths.{W8, W16, W32, W64}
-use Rattle.arrays.specs.OffsetWidth.{OffsetWidth}
-use Rattle.arrays.specs.OffsetWidths.{Narrow, Wide}
-use Rattle.arrays.specs.OffsetSize.{offset_type}
+use Rattle.arrays.specs.Prelude.{FieldShape, IntType, IsItemOf, Item, Kind, Narrow, OffsetWidth, Shape, W16, W32, W64, W8, Wide, Width, dict, field, inner_items, is_null, kind_of_field, kind_of_shape, offset_type}
 use Rattle.arrays.specs.Item as column
-use Rattle.arrays.specs.Item.{Item, is_null}
 use Rattle.arrays.specs.Kind as kind
-use Rattle.arrays.specs.Kind.{Kind}
-use Rattle.arrays.specs.Lengths.{inner_items}
 use Rattle.arrays.specs.Shape as shape
-use Rattle.arrays.specs.Shape.{Shape, FieldShape, int, boolean, dict, field, kind_of_field, kind_of_shape}
-use Rattle.arrays.specs.Typed.{IsItemOf}
+use Rattle.arrays.specs.Shape.{int, boolean}
 use Rattle.pool.specs.Texts.{firsts, texts_of}
-use Rattle.json_base.specs.Data.{Data, Items}
-use Rattle.json_base.specs.JsonTable.{Table}
-use Rattle.json_print.specs.BatchData.{batch_data, batches_data, columns_data}
-use Rattle.json_print.specs.ColumnData.{code_data, column_data, each, flag_data, int_data, item_length, list_column, number_data, offset_data, offsets_data, plain_column, shaped_column, sized, text_column, text_data, truth_data, valid_data}
-use Rattle.json_print.specs.Dictionaries.{column_at, column_items, dictionaries_from, dictionary_of}
-use Rattle.json_print.specs.DictionaryData.{entries_data, entry_data, text_items, with_field}
-use Rattle.json_print.specs.SchemaData.{field_data, fields_data, int_type, list_name, named_members, schema_data, text_name, type_data}
-use Rattle.json_print.specs.Slots.{code_in}
-use Rattle.json_print.specs.Text.{document, has_dictionary, last_members}
+use Rattle.json_base.specs.Prelude.{Data, Items, Table}
+use Rattle.json_print.specs.Prelude.{batch_data, batches_data, code_data, code_in, column_at, column_data, column_items, columns_data, dictionaries_from, dictionary_of, document, each, entries_data, entry_data, field_data, fields_data, flag_data, has_dictionary, int_data, int_type, item_length, last_members, list_column, list_name, named_members, number_data, offset_data, offsets_data, plain_column, schema_data, shaped_column, sized, text_column, text_data, text_items, text_name, truth_data, type_data, valid_data, with_field}
 use Rattle.json_laws.specs.IsFile.{AreColumns, IsColumn, IsField, IsFile, IsNamed, IsTable}
 use Rattle.json_print.proofs.Columns.{inner_typed, joined}
 use Rattle.json_laws.proofs.Utf8.{AreNamed, AreTexts, IsText, signed_utf8}

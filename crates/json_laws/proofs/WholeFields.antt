@@ -7,13 +7,8 @@ use Rattle.std.specs.declared.string.String.{String}
 use Rattle.std.proofs.lemmas.Str.{IsUtf8-string_bytes}
 use Rattle.std.proofs.lemmas.Bool.{or_parts}
 use Rattle.pool.proofs.PlaceLemmas.{among_missing}
-use Rattle.arrays.specs.DataType.{DataType}
+use Rattle.arrays.specs.Prelude.{DataType, Dict, DictInList, Field, FieldShape, Int, LargeList', LargeUtf8, List', Shape, TooDeep, Utf8, field_of, field_step, fields_of, fold_out-Field, holds_dict, is_deep, out-Field, outs-Bool, outs-Dict, outs-Int, outs-LargeList', outs-LargeUtf8, outs-List', outs-Utf8, schema_fault, shape_of, shape_step}
 use Rattle.arrays.specs.DataTypes as variants
-use Rattle.arrays.specs.DataTypes.{Int, Utf8, LargeUtf8, List', LargeList', Dict, outs-Int, outs-Bool, outs-Utf8, outs-LargeUtf8, outs-List', outs-LargeList', outs-Dict}
-use Rattle.arrays.specs.Field.{Field, out-Field, fold_out-Field}
-use Rattle.arrays.specs.SchemaFaults.{DictInList, TooDeep}
-use Rattle.arrays.specs.Schema.{holds_dict, is_deep, schema_fault}
-use Rattle.arrays.specs.Shape.{Shape, FieldShape, field_of, field_step, fields_of, shape_of, shape_step}
 use Rattle.json_print.proofs.Shapes.{shape_at}
 use Rattle.json_laws.specs.IsFile.{IsField, IsNamed, IsNamedInside}
 

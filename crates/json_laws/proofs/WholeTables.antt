@@ -7,18 +7,11 @@ use Rattle.std.proofs.lemmas.Bool.Decides.{nat_tests}
 use Rattle.std.proofs.lemmas.List.{get_or-map, length-map, take_all, take_more}
 use Rattle.std.proofs.lemmas.List.Elements.{All-append, recursion_from_All}
 use Rattle.std.proofs.lemmas.Option.{slice_get-get_or}
-use Rattle.arrays.specs.Lengths.{is_too_big}
-use Rattle.arrays.specs.Batch.{Batch, batch_fault}
-use Rattle.arrays.specs.File.{AreBatchesOf, kinds_of}
-use Rattle.arrays.specs.Item.{Item}
-use Rattle.arrays.specs.Seen.{Seen}
-use Rattle.arrays.specs.Shape.{FieldShape, kind_of_field}
-use Rattle.arrays.specs.Typed.{IsItemOf}
+use Rattle.arrays.specs.Prelude.{AreBatchesOf, Batch, FieldShape, IsItemOf, Item, Seen, batch_fault, is_too_big, kind_of_field, kinds_of, most_slots}
 use Rattle.arrays.proofs.BatchLemmas.{whole}
 use Rattle.json_base.specs.JsonTable.{Table, items_of, table_of, tables_of}
 use Rattle.json_print.proofs.Batches.{lawful_kinds, neither}
 use Rattle.json_laws.specs.IsFile.{AreColumns, IsBatch, IsColumn, IsShown, IsTable}
-use Rattle.arrays.specs.Limits.{most_slots}
 
 -- ---- loops
 

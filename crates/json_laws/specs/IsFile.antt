@@ -1,14 +1,8 @@
 -- What holds of every file in memory. (Arrow columnar format, "Physical memory layout")
 use Rattle.std.specs.Prelude.{◌≡◌, ℕ, ◌<◌, ◌^◌, List, [], ◌∷◌, length, false, IsUtf8, ⊤}
 use Rattle.std.specs.List.{AllByRecursion}
-use Rattle.arrays.specs.Batch.{Batch}
-use Rattle.arrays.specs.Item.{Item}
-use Rattle.arrays.specs.Kind.{Kind}
-use Rattle.arrays.specs.Lengths.{is_too_big}
-use Rattle.arrays.specs.Schema.{holds_dict, is_deep}
-use Rattle.arrays.specs.Seen.{Seen}
-use Rattle.arrays.specs.Shape.{Shape, FieldShape, int, boolean, texts, lists, dict, field, kind_of_field}
-use Rattle.arrays.specs.Typed.{IsItemOf}
+use Rattle.arrays.specs.Prelude.{Batch, FieldShape, IsItemOf, Item, Kind, Seen, Shape, dict, field, holds_dict, is_deep, is_too_big, kind_of_field, lists, texts}
+use Rattle.arrays.specs.Shape.{int, boolean}
 use Rattle.pool.specs.Texts.{byte_count}
 use Rattle.json_base.specs.JsonTable.{Table, table_of}
 

@@ -1,24 +1,11 @@
 ghost use Rattle.std.specs.Prelude.{◌≡◌, ◌+◌, ◌*◌, ◌≤◌, Some, ℕ, ◌<◌, ◌^◌, List, length, false, IsUtf8};
 ghost use Rattle.std.specs.List.{AllByRecursion};
-ghost use Rattle.arrays.specs.File.{File};
-ghost use Rattle.arrays.specs.Item.{Item};
+ghost use Rattle.arrays.specs.Prelude.{FieldShape, File, Item, kind_of_field};
 ghost use Rattle.arrays.specs.Kind as kind;
-ghost use Rattle.arrays.specs.Shape.{FieldShape, kind_of_field};
-ghost use Rattle.json_print.specs.BatchData.{batches_data};
-ghost use Rattle.json_base.specs.JsonTable.{Table, tables_of};
-ghost use Rattle.json_print.specs.ColumnData.{column_data};
-ghost use Rattle.json_print.specs.Plain.{ArePlain, IsPlain};
-ghost use Rattle.json_print.specs.SchemaData.{schema_data};
-ghost use Rattle.json_print.specs.Text.{document, is_encoded, text};
-ghost use Rattle.json_base.specs.Data.{depth};
-ghost use Rattle.json_base.specs.Read.{read};
-ghost use Rattle.json_print.specs.Slots.{code_in};
-ghost use Rattle.json_print.specs.Fits.{AreSmall, FitTables, FitsField, FitsFile};
+ghost use Rattle.json_print.specs.Prelude.{ArePlain, AreSmall, FitTables, FitsField, FitsFile, IsPlain, batches_data, code_in, column_data, dictionaries_from, document, is_encoded, schema_data, text};
+ghost use Rattle.json_base.specs.Prelude.{Table, depth, read, tables_of};
 ghost use Rattle.json_laws.specs.IsFile.{AreShort, IsColumn, IsField, IsFile};
-ghost use Rattle.json_read.specs.JsonBatch.{ReadsColumn};
-ghost use Rattle.json_read.specs.JsonFields.{ReadsSchema};
-ghost use Rattle.json_read.specs.JsonFile.{Reads, file_of};
-ghost use Rattle.json_print.specs.Dictionaries.{dictionaries_from};
+ghost use Rattle.json_read.specs.Prelude.{Reads, ReadsColumn, ReadsSchema, file_of};
 
 /// A column that fits is a plain value: its numbers are of at most 64 bits, and its members stand in the order of their names.
 #[tactic(auto, using(json_print::proofs::PlainColumns::column_plain))]

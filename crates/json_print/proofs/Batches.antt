@@ -6,16 +6,11 @@ use Rattle.std.specs.Prelude.{slice_get}
 use Rattle.std.specs.List.{All, list_any, zip}
 use Rattle.arrays.proofs.ChildLemmas.{same_kinds}
 use Rattle.arrays.proofs.ShapeLemmas.{kind_of_field-field_of}
-use Rattle.arrays.specs.Field.{Field, out-Field}
-use Rattle.arrays.specs.Batch.{Batch, batch_fault}
-use Rattle.arrays.specs.File.{AreBatchesOf, kinds_of}
-use Rattle.arrays.specs.Kind.{Kind, dict, kind_of, same_kind}
-use Rattle.arrays.specs.Seen.{Seen}
-use Rattle.arrays.specs.Shape.{FieldShape, field_of, fields_of, kind_of_field}
+use Rattle.arrays.specs.Prelude.{AreBatchesOf, Batch, Field, FieldShape, Kind, Seen, batch_fault, field_of, fields_of, kind_of, kind_of_field, kinds_of, out-Field, same_kind}
+use Rattle.arrays.specs.Kind.{dict}
 use Rattle.arrays.proofs.BatchLemmas.{whole, wrong_kind}
 use Rattle.json_base.specs.JsonTable.{items_of, table_of}
-use Rattle.json_print.specs.Dictionaries.{IsEncodedAt, column_at}
-use Rattle.json_print.specs.Text.{has_dictionary, is_encoded}
+use Rattle.json_print.specs.Prelude.{IsEncodedAt, column_at, has_dictionary, is_encoded}
 
 -- ---- kinds
 

@@ -4,13 +4,9 @@ use Rattle.std.specs.Prelude.{sum_by}
 use Rattle.std.specs.List.{AllByRecursion}
 use Rattle.std.proofs.lemmas.List.Sums.{sum_by-cons}
 use Rattle.std.proofs.lemmas.Bool.{or_parts}
-use Rattle.arrays.specs.OffsetWidth.{OffsetWidth}
+use Rattle.arrays.specs.Prelude.{AreItemsOf, IsItemOf, Item, Items, Kind, OffsetWidth, inner_items, is_past, is_too_big, items_in, items_of, text_bytes, text_length}
 use Rattle.arrays.specs.Item as column
-use Rattle.arrays.specs.Item.{Item, Items, items_of}
 use Rattle.arrays.specs.Kind as kind
-use Rattle.arrays.specs.Kind.{Kind}
-use Rattle.arrays.specs.Lengths.{inner_items, is_past, is_too_big, items_in, text_bytes, text_length}
-use Rattle.arrays.specs.Typed.{IsItemOf, AreItemsOf}
 use Rattle.arrays.proofs.SizeLemmas.{small}
 use Rattle.json_print.specs.ColumnData.{item_length}
 

@@ -1,27 +1,12 @@
 -- How deep the documents of files are.
 use Rattle.std.proofs.Common.{◌≡◌, ℕ, suc, max, ◌+◌, ◌*◌, ◌≤◌, ℤ, pos, List, [], ◌∷◌, Bool, true, false, not, refl, ap₂, arith}
-use Rattle.arrays.specs.IntType.{IntType}
-use Rattle.arrays.specs.Width.{Width}
-use Rattle.arrays.specs.Widths.{W8, W16, W32, W64}
-use Rattle.arrays.specs.OffsetWidth.{OffsetWidth}
-use Rattle.arrays.specs.OffsetWidths.{Narrow}
-use Rattle.arrays.specs.OffsetSize.{offset_type}
+use Rattle.arrays.specs.Prelude.{FieldShape, IntType, Item, Narrow, OffsetWidth, Shape, W16, W32, W64, W8, Width, dict, field, inner_items, is_null, kind_of_field, kind_of_shape, offset_type}
 use Rattle.arrays.specs.Item as column
-use Rattle.arrays.specs.Item.{Item, is_null}
 use Rattle.arrays.specs.Kind as kind
-use Rattle.arrays.specs.Lengths.{inner_items}
 use Rattle.arrays.specs.Shape as shape
-use Rattle.arrays.specs.Shape.{Shape, FieldShape, int, boolean, dict, field, kind_of_field, kind_of_shape}
-use Rattle.json_base.specs.Data.{Data, Items, depth, items_depth, members_depth}
-use Rattle.json_print.specs.BatchData.{batch_data, batches_data, columns_data}
-use Rattle.json_base.specs.JsonTable.{Table}
-use Rattle.json_print.specs.ColumnData.{code_data, column_data, each, flag_data, int_data, item_length, list_column, number_data, offset_data, offsets_data, plain_column, shaped_column, text_column, text_data, truth_data, valid_data}
-use Rattle.json_print.specs.Dictionaries.{dictionaries_from}
-use Rattle.json_print.specs.DictionaryData.{entries_data, entry_data, text_items, with_field}
-use Rattle.json_print.specs.SchemaData.{field_data, fields_data, schema_data}
-use Rattle.json_print.specs.Slots.{code_in}
-use Rattle.json_print.specs.Text.{document, has_dictionary, last_members}
-use Rattle.json_print.specs.Fits.{AreShallow}
+use Rattle.arrays.specs.Shape.{int, boolean}
+use Rattle.json_base.specs.Prelude.{Data, Items, Table, depth, items_depth, members_depth}
+use Rattle.json_print.specs.Prelude.{AreShallow, batch_data, batches_data, code_data, code_in, column_data, columns_data, dictionaries_from, document, each, entries_data, entry_data, field_data, fields_data, flag_data, has_dictionary, int_data, item_length, last_members, list_column, number_data, offset_data, offsets_data, plain_column, schema_data, shaped_column, text_column, text_data, text_items, truth_data, valid_data, with_field}
 
 each_flat : (value : Item → Data) → ((x : Item) → depth (value x) ≡ 0) → (items : List Item) → items_depth (each value items) ≡ 0
 each_flat value flat [] = refl

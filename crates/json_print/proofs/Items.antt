@@ -3,10 +3,7 @@ use Rattle.std.proofs.Common.{◌≡◌, ◌∙◌, ℕ, List, [], ◌∷◌, �
 use Rattle.std.proofs.lemmas.Option.{get_or_from_slice_get}
 use Rattle.std.proofs.lemmas.List.Concat.{flat_map-append}
 use Rattle.std.specs.Prelude.{slice_get}
-use Rattle.arrays.specs.Item.{Item, null}
-use Rattle.arrays.specs.Lengths.{items_in, joined_items}
-use Rattle.arrays.specs.Seen.{Seen}
-use Rattle.arrays.specs.Slot.{item_of_list}
+use Rattle.arrays.specs.Prelude.{Item, Seen, item_of_list, items_in, joined_items, null}
 use Rattle.arrays.proofs.ListLemmas.{items_of-list_of}
 use Rattle.json_print.specs.ColumnData.{item_length}
 

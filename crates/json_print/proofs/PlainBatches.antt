@@ -1,11 +1,8 @@
 -- Batches that fit are plain values.
 use Rattle.std.proofs.Common.{ℕ, List, [], ◌∷◌, refl}
-use Rattle.arrays.specs.Item.{Item}
-use Rattle.arrays.specs.Shape.{FieldShape}
-use Rattle.json_print.specs.BatchData.{batch_data, batches_data, columns_data}
+use Rattle.arrays.specs.Prelude.{FieldShape, Item}
+use Rattle.json_print.specs.Prelude.{ArePlain, AreSmall, FitColumns, FitTables, FitsTable, IsPlain, batch_data, batches_data, columns_data}
 use Rattle.json_base.specs.JsonTable.{Table}
-use Rattle.json_print.specs.Plain.{ArePlain, IsPlain}
-use Rattle.json_print.specs.Fits.{AreSmall, FitColumns, FitTables, FitsTable}
 use Rattle.json_print.proofs.PlainColumns.{column_plain}
 
 columns_plain : (dictionaries : List (List (List ℕ))) (fields : List FieldShape) (columns : List (List Item)) → AreSmall dictionaries → FitColumns fields columns → ArePlain (columns_data dictionaries fields columns)

@@ -5,25 +5,15 @@ use Rattle.std.specs.List.{AllByRecursion}
 use Rattle.std.specs.Str.{bytes_eq}
 use Rattle.std.proofs.lemmas.Int.{ints}
 use Rattle.std.proofs.lemmas.List.Sums.{sum_by-cons}
-use Rattle.arrays.specs.IntType.{IntType}
-use Rattle.arrays.specs.Width.{Width}
-use Rattle.arrays.specs.Widths.{W8, W16, W32, W64}
-use Rattle.arrays.specs.OffsetWidth.{OffsetWidth}
-use Rattle.arrays.specs.OffsetWidths.{Narrow, Wide}
+use Rattle.arrays.specs.Prelude.{FieldShape, IntType, IsItemOf, Item, Narrow, OffsetWidth, Shape, W16, W32, W64, W8, Wide, Width, dict, field, inner_items, is_null}
 use Rattle.arrays.specs.Item as column
-use Rattle.arrays.specs.Item.{Item, is_null}
 use Rattle.arrays.specs.Kind as kind
-use Rattle.arrays.specs.Lengths.{inner_items}
 use Rattle.arrays.specs.Shape as shape
-use Rattle.arrays.specs.Shape.{Shape, FieldShape, int, boolean, dict, field}
-use Rattle.arrays.specs.Typed.{IsItemOf}
+use Rattle.arrays.specs.Shape.{int, boolean}
 use Rattle.pool.proofs.PlaceLemmas.{position_found}
-use Rattle.json_base.specs.Data.{Data}
-use Rattle.json_print.specs.ColumnData.{code_data, column_data, each, flag_data, int_data, item_length, list_column, number_data, offset_data, offsets_data, plain_column, shaped_column, sized, text_column, text_data, truth_data, valid_data, whole_data}
-use Rattle.json_print.specs.Plain.{ArePlain, ArePlainMembers, IsPlain}
-use Rattle.json_print.specs.Slots.{code_in}
+use Rattle.json_base.specs.Prelude.{Data}
+use Rattle.json_print.specs.Prelude.{ArePlain, ArePlainMembers, FitsField, FitsOffset, FitsShape, IsPlain, code_data, code_in, column_data, each, flag_data, int_data, item_length, list_column, number_data, offset_data, offsets_data, plain_column, shaped_column, sized, text_column, text_data, truth_data, valid_data, whole_data}
 use Rattle.json_print.proofs.Ranges.{high_of, low_of}
-use Rattle.json_print.specs.Fits.{FitsField, FitsOffset, FitsShape}
 
 -- ---- slots
 

@@ -3,22 +3,13 @@ use Rattle.std.proofs.Common.{◌≡◌, ◌∙◌, ℕ, suc, ◌+◌, ◌<◌, 
 use Rattle.std.specs.Prelude.{sum_by}
 use Rattle.std.proofs.lemmas.List.{length-map}
 use Rattle.std.proofs.lemmas.List.Sums.{sum_by-cons}
-use Rattle.arrays.specs.OffsetWidths.{Narrow}
-use Rattle.arrays.specs.File.{File}
-use Rattle.arrays.specs.Item.{text}
+use Rattle.arrays.specs.Prelude.{FieldShape, File, Narrow, dict, field, text}
 use Rattle.arrays.specs.Shape as shape
-use Rattle.arrays.specs.Shape.{FieldShape, int, boolean, dict, field}
-use Rattle.json_base.specs.Data.{Items, depth}
-use Rattle.json_base.specs.Read.{read}
-use Rattle.json_base.specs.JsonTable.{Table, tables_of}
-use Rattle.json_print.specs.ColumnData.{item_length}
-use Rattle.json_print.specs.Dictionaries.{dictionaries_from}
-use Rattle.json_print.specs.DictionaryData.{entries_data, entry_data, text_batch, text_items, with_field}
-use Rattle.json_print.specs.Plain.{AreBehind, ArePlain, ArePlainMembers, IsPlain}
+use Rattle.arrays.specs.Shape.{int, boolean}
+use Rattle.json_base.specs.Prelude.{Items, Table, depth, read, tables_of}
+use Rattle.json_print.specs.Prelude.{AreBehind, ArePlain, ArePlainMembers, AreSmall, FitDictionaries, FitsFile, IsPlain, dictionaries_from, document, entries_data, entry_data, has_dictionary, item_length, last_members, text_batch, text_items, with_field}
 use Rattle.json_print.specs.Text as printed
-use Rattle.json_print.specs.Text.{document, has_dictionary, last_members}
 use Rattle.json_print.proofs.ReadBack.{read_back}
-use Rattle.json_print.specs.Fits.{AreSmall, FitDictionaries, FitsFile}
 use Rattle.json_print.proofs.Depths.{document_depth}
 use Rattle.json_print.proofs.PlainBatches.{batches_plain}
 use Rattle.json_print.proofs.PlainColumns.{text_column_plain}

@@ -1,12 +1,8 @@
 -- Schemas are plain values.
 use Rattle.std.proofs.Common.{ℕ, suc, ◌+◌, ◌*◌, ◌<◌, ◌≤◌, ◌^◌, List, [], ◌∷◌, length, Bool, refl, arith, lit<}
-use Rattle.arrays.specs.IntType.{IntType}
-use Rattle.arrays.specs.Width.{Width}
-use Rattle.arrays.specs.Widths.{W8, W16, W32, W64}
-use Rattle.arrays.specs.Kind.{bytes_of, int32}
-use Rattle.arrays.specs.Shape.{Shape, FieldShape, int, boolean, texts, lists, dict, field}
-use Rattle.json_print.specs.Plain.{ArePlain, ArePlainMembers, IsPlain}
-use Rattle.json_print.specs.SchemaData.{dictionary_data, field_data, fields_data, int_type, named_members, schema_data, type_data}
+use Rattle.arrays.specs.Prelude.{FieldShape, IntType, Shape, W16, W32, W64, W8, Width, bytes_of, dict, field, int32, lists, texts}
+use Rattle.arrays.specs.Shape.{int, boolean}
+use Rattle.json_print.specs.Prelude.{ArePlain, ArePlainMembers, IsPlain, dictionary_data, field_data, fields_data, int_type, named_members, schema_data, type_data}
 
 width_small : (w : Width) → 8 * bytes_of w < 2 ^ 64
 width_small W8 = lit< tt

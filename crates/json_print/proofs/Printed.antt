@@ -5,8 +5,7 @@ use Rattle.json.specs.Token.{Token}
 use Rattle.json_base.proofs.Texts.{print-outline}
 use Rattle.arrays.specs.File.{File}
 use Rattle.json_base.specs.JsonTable.{tables_of}
-use Rattle.json_print.specs.Text.{document, text}
-use Rattle.json_print.specs.Written.{tokens_of}
+use Rattle.json_print.specs.Prelude.{document, text, tokens_of}
 
 -- The print of a file's tokens is its text.
 pub printed : (f : File) (tokens : List Token) → tokens ≡ [] ++ tokens_of (document f.fields (tables_of f.batches)) → print tokens ≡ text f

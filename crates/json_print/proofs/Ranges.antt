@@ -2,10 +2,7 @@
 use Rattle.std.proofs.Common.{◌^◌, ◌-◌, ℤ, pos, neg_ℤ, Bool, true, false, arith}
 use Rattle.std.specs.Prelude.{◌≤ℤ◌}
 use Rattle.std.proofs.lemmas.Int.{ints}
-use Rattle.arrays.specs.Width.{Width}
-use Rattle.arrays.specs.Widths.{W8, W16, W32, W64}
-use Rattle.arrays.specs.IntType.{IntType}
-use Rattle.arrays.specs.Number.{IsOfType}
+use Rattle.arrays.specs.Prelude.{IntType, IsOfType, W16, W32, W64, W8, Width}
 
 low : (w : Width) (signed : Bool) (z : ℤ) → IsOfType (record { bits = w; signed = signed }) z → neg_ℤ (pos (2 ^ 63)) ≤ℤ z
 low W8 true z h = omega (arith, ints)

@@ -10,9 +10,7 @@ use Rattle.json.specs.Tree.{HasNumbers, ItemsHaveNumbers, MembersHaveNumbers, js
 use Rattle.json.proofs.Printed.Decimals.{IsNumber-decimal, IsNumber-signed_decimal}
 use Rattle.json.proofs.Printed.Tokens.{tokens-print}
 use Rattle.json.proofs.Printed.Trees.{ArePrintable-json_tokens, value-json_tokens}
-use Rattle.json_base.specs.Data.{Num, unsigned, negative, float, Data, null, boolean, number, string, array, object, Items, no_items, item, Members, no_members, member, put, depth, items_depth, members_depth}
-use Rattle.json_base.specs.Read.{number_of, of_json, of_items, of_members, read, max_depth}
-use Rattle.json_base.specs.Written.{compact_text, items_outline, members_outline, number_text, outline}
+use Rattle.json_base.specs.Prelude.{Data, Items, Members, Num, array, boolean, compact_text, depth, float, item, items_depth, items_outline, max_depth, member, members_depth, members_outline, negative, no_items, no_members, null, number, number_of, number_text, object, of_items, of_json, of_members, outline, put, read, string, unsigned}
 use Rattle.json_base.proofs.Numbers.{number_of-decimal, number_of-negative}
 use Rattle.json_base.proofs.Texts.{print-outline}
 use Rattle.json_print.specs.Plain.{AreBehind, ArePlain, ArePlainMembers, IsPlain, IsWhole}

@@ -2,12 +2,8 @@
 use Rattle.std.proofs.Common.{◌≡◌, ◌∙◌, ap}
 use Rattle.std.specs.declared.boxed.Box.{Box}
 use Rattle.std.specs.declared.alloc.Global.{Global}
-use Rattle.arrays.specs.DataType.{DataType, DataType-F, out-DataType, fold_out-DataType, map-DataType}
-use Rattle.arrays.specs.DataTypes.{LargeUtf8, Dict, outs-LargeUtf8, outs-LargeList', outs-Dict}
+use Rattle.arrays.specs.Prelude.{DataType, DataType-F, Dict, Field, FieldShape, LargeUtf8, Shape, Wide, dict, field_of, field_step, fold_out-DataType, lists, map-DataType, out-DataType, outs-Dict, outs-LargeList', outs-LargeUtf8, shape_of, shape_step, texts}
 use Rattle.arrays.specs.DataTypeViews as types
-use Rattle.arrays.specs.Field.{Field}
-use Rattle.arrays.specs.OffsetWidths.{Wide}
-use Rattle.arrays.specs.Shape.{Shape, FieldShape, shape_step, field_step, shape_of, field_of, texts, lists, dict}
 
 -- A type whose level is known.
 pub shape_at : (t : DataType) (level : DataType-F DataType Field) → out-DataType t ≡ level → shape_of t ≡ shape_step (map-DataType DataType Field Shape FieldShape shape_of field_of level)

@@ -5,14 +5,10 @@ use Rattle.std.proofs.lemmas.List.{get_or-map, length-map}
 use Rattle.std.proofs.lemmas.List.Elements.{All-get_or}
 use Rattle.std.proofs.lemmas.List.Sums.{sum_by-cons}
 use Rattle.std.specs.List.{All, flat_map}
-use Rattle.arrays.specs.OffsetWidth.{OffsetWidth}
-use Rattle.arrays.specs.Item.{Item}
+use Rattle.arrays.specs.Prelude.{Item, OffsetWidth}
 use Rattle.json.specs.Tree.{items_tokens}
-use Rattle.json_base.specs.Data.{Data}
-use Rattle.json_base.specs.Written.{items_outline}
-use Rattle.json_print.specs.ColumnData.{each, item_length, offset_data, offsets_data}
-use Rattle.json_print.specs.Slots.{starts_tokens}
-use Rattle.json_print.specs.Written.{tokens_of}
+use Rattle.json_base.specs.Prelude.{Data, items_outline}
+use Rattle.json_print.specs.Prelude.{each, item_length, offset_data, offsets_data, starts_tokens, tokens_of}
 
 -- What is left after an element, if what is made of a list begins with what is made of its first element.
 pub moved : {A B : Type 0} (before after : List A → List B) (xs : List A) (i : ℕ) (x : A) (made old new all : List B)

@@ -1,14 +1,11 @@
 -- Texts put into a set one by one.
 use Rattle.std.proofs.Common.{◌≡◌, ◌∙◌, ℕ, List, [], ◌∷◌, ◌++◌, ◌+◌, ◌<◌, suc, length, map, drop, get_or, refl, sym, ap, append_assoc, append-nil, add-one}
 use Rattle.std.proofs.Math.Seq.{drop-cons}
-use Rattle.arrays.specs.Batch.{Batch}
-use Rattle.arrays.specs.Shape.{FieldShape}
-use Rattle.arrays.specs.Item.{Item, null, int, boolean, text, list}
-use Rattle.pool.specs.Texts.{firsts, texts_of}
+use Rattle.arrays.specs.Prelude.{Batch, FieldShape, Item, boolean, int, list, null, text}
+use Rattle.pool.specs.Prelude.{firsts, texts_of, with_item}
 use Rattle.pool.proofs.TextLemmas.{firsts-push}
 use Rattle.json_base.specs.JsonTable.{Table, table_of, tables_of}
 use Rattle.json_print.specs.Dictionaries.{column_at, column_items, dictionaries_from, with_items}
-use Rattle.pool.specs.Places.{with_item}
 
 pub with_items-append : (texts : List (List ℕ)) (xs ys : List Item) → with_items texts (xs ++ ys) ≡ with_items (with_items texts xs) ys
 with_items-append texts [] ys = refl

@@ -1,9 +1,7 @@
 -- The batches of a file as values. (Arrow integration testing, "JSON test data format", RecordBatch)
 use Rattle.std.specs.Prelude.{ℕ, List, [], ◌∷◌, codes}
-use Rattle.arrays.specs.Item.{Item}
-use Rattle.arrays.specs.Shape.{FieldShape}
-use Rattle.json_base.specs.Data.{Data, array, object, Items, no_items, item, no_members, member}
-use Rattle.json_base.specs.JsonTable.{Table}
+use Rattle.arrays.specs.Prelude.{FieldShape, Item}
+use Rattle.json_base.specs.Prelude.{Data, Items, Table, array, item, member, no_items, no_members, object}
 use Rattle.json_print.specs.ColumnData.{column_data}
 use Rattle.json_print.specs.Slots.{code_in}
 use Rattle.json_print.specs.Written.{natural}

@@ -1,17 +1,10 @@
 -- The columns of a file as values. (Arrow integration testing, "JSON test data format", RecordBatch and FieldData)
 use Rattle.std.specs.Prelude.{ℕ, ◌+◌, ℤ, pos, List, [], ◌∷◌, codes, length, Bool, true, false, not}
 use Rattle.std.specs.Fmt.{signed_decimal}
-use Rattle.arrays.specs.IntType.{IntType}
-use Rattle.arrays.specs.Width.{Width}
-use Rattle.arrays.specs.Widths.{W8, W16, W32, W64}
-use Rattle.arrays.specs.OffsetWidth.{OffsetWidth}
-use Rattle.arrays.specs.OffsetSize.{offset_type}
+use Rattle.arrays.specs.Prelude.{FieldShape, IntType, Item, OffsetWidth, Shape, W16, W32, W64, W8, Width, dict, field, inner_items, is_null, items_of, lists, offset_type, texts}
 use Rattle.arrays.specs.Item as column
-use Rattle.arrays.specs.Item.{Item, is_null, items_of}
-use Rattle.arrays.specs.Lengths.{inner_items}
-use Rattle.arrays.specs.Shape.{Shape, FieldShape, int, boolean, texts, lists, dict, field}
-use Rattle.json_base.specs.Data.{Data, number, string, array, object, Items, no_items, item, Members, no_members, member}
-use Rattle.json_base.specs.Find.{of_integer}
+use Rattle.arrays.specs.Shape.{int, boolean}
+use Rattle.json_base.specs.Prelude.{Data, Items, Members, array, item, member, no_items, no_members, number, object, of_integer, string}
 use Rattle.json_print.specs.Written.{natural}
 
 -- ---- what stands for a slot: 0 and "" for null

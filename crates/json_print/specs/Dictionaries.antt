@@ -1,13 +1,9 @@
 -- The dictionaries of a file: the texts of a column over all batches, each once, in order of first appearance.
 use Rattle.std.specs.Prelude.{◌≡◌, ℕ, suc, List, [], ◌∷◌, Some, slice_get, slice_index_or}
 use Rattle.std.specs.List.{flat_map}
-use Rattle.arrays.specs.Batch.{Batch}
-use Rattle.arrays.specs.File.{kinds_of}
-use Rattle.arrays.specs.Item.{Item}
-use Rattle.arrays.specs.Kind.{Kind, dict}
-use Rattle.arrays.specs.Shape.{FieldShape, kind_of_field}
-use Rattle.pool.specs.Texts.{firsts, texts_of}
-use Rattle.pool.specs.Places.{with_item}
+use Rattle.arrays.specs.Prelude.{Batch, FieldShape, Item, Kind, kind_of_field, kinds_of}
+use Rattle.arrays.specs.Kind.{dict}
+use Rattle.pool.specs.Prelude.{firsts, texts_of, with_item}
 use Rattle.json_base.specs.JsonTable.{Table}
 
 -- The items of the column at the place.

@@ -1,10 +1,8 @@
 -- The dictionaries of a file as values. (Arrow integration testing, "JSON test data format", DictionaryBatch)
 use Rattle.std.specs.Prelude.{ℕ, suc, List, ◌∷◌, codes, length, map}
-use Rattle.arrays.specs.Item.{Item, text}
-use Rattle.arrays.specs.OffsetWidths.{Narrow}
+use Rattle.arrays.specs.Prelude.{FieldShape, Item, Narrow, Shape, field, text}
 use Rattle.arrays.specs.Shape as shape
-use Rattle.arrays.specs.Shape.{Shape, FieldShape, field}
-use Rattle.json_base.specs.Data.{Data, object, Items, no_items, item, no_members, member}
+use Rattle.json_base.specs.Prelude.{Data, Items, item, member, no_items, no_members, object}
 use Rattle.json_print.specs.BatchData.{batch_object}
 use Rattle.json_print.specs.ColumnData.{text_column}
 use Rattle.json_print.specs.Written.{natural}

@@ -2,13 +2,9 @@
 -- 64 bits, and their numbers are of their type. Offsets of 64 bits are strings, so nothing is required of them.
 use Rattle.std.specs.Prelude.{ℕ, ◌<◌, ◌≤◌, ◌^◌, List, [], ◌∷◌, length, sum_by, ⊤}
 use Rattle.std.specs.List.{AllByRecursion}
-use Rattle.arrays.specs.OffsetWidth.{OffsetWidth}
-use Rattle.arrays.specs.OffsetWidths.{Narrow, Wide}
-use Rattle.arrays.specs.Item.{Item}
+use Rattle.arrays.specs.Prelude.{FieldShape, IsItemOf, Item, Narrow, OffsetWidth, Shape, Wide, dict, field, inner_items, kind_of_field, lists, texts}
 use Rattle.arrays.specs.Kind as kind
-use Rattle.arrays.specs.Lengths.{inner_items}
-use Rattle.arrays.specs.Shape.{Shape, FieldShape, int, boolean, texts, lists, dict, field, kind_of_field}
-use Rattle.arrays.specs.Typed.{IsItemOf}
+use Rattle.arrays.specs.Shape.{int, boolean}
 use Rattle.json_base.specs.JsonTable.{Table}
 use Rattle.json_print.specs.ColumnData.{item_length}
 use Rattle.json_print.specs.Dictionaries.{dictionaries_from}

@@ -9,3 +9,4 @@ pub mod DictionaryData
 pub mod Text
 pub mod Plain
 pub mod Fits
+pub mod Prelude

@@ -1,11 +1,8 @@
 -- The schema of a file as a value. (Arrow integration testing, "JSON test data format", Schema and Field)
 use Rattle.std.specs.Prelude.{ℕ, suc, ◌*◌, List, [], ◌∷◌, codes, Bool, false}
-use Rattle.arrays.specs.IntType.{IntType}
-use Rattle.arrays.specs.OffsetWidth.{OffsetWidth}
-use Rattle.arrays.specs.OffsetWidths.{Narrow, Wide}
-use Rattle.arrays.specs.Kind.{bytes_of, int32}
-use Rattle.arrays.specs.Shape.{Shape, FieldShape, int, boolean as truth, texts, lists, dict, field}
-use Rattle.json_base.specs.Data.{Data, boolean, string, array, object, Items, no_items, item, Members, no_members, member}
+use Rattle.arrays.specs.Prelude.{FieldShape, IntType, Narrow, OffsetWidth, Shape, Wide, bytes_of, dict, field, int32, lists, texts}
+use Rattle.arrays.specs.Shape.{int, boolean as truth}
+use Rattle.json_base.specs.Prelude.{Data, Items, Members, array, boolean, item, member, no_items, no_members, object, string}
 use Rattle.json_print.specs.Written.{natural}
 
 -- An integer type.

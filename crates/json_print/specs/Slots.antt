@@ -2,13 +2,10 @@
 use Rattle.std.specs.Prelude.{◌≡◌, ℕ, ◌+◌, List, [], ◌∷◌, ◌++◌, Bool, true, false, position, unwrap_or, ⊤}
 use Rattle.std.specs.List.{All, flat_map}
 use Rattle.std.specs.Str.{bytes_eq}
-use Rattle.arrays.specs.Item.{Item}
+use Rattle.arrays.specs.Prelude.{Item, Kind, OffsetWidth, Seen}
 use Rattle.arrays.specs.Kind as kind
-use Rattle.arrays.specs.Kind.{Kind}
-use Rattle.arrays.specs.Seen.{Seen}
 use Rattle.json.specs.Token.{Token}
-use Rattle.json_base.specs.Data.{Data}
-use Rattle.arrays.specs.OffsetWidth.{OffsetWidth}
+use Rattle.json_base.specs.Prelude.{Data}
 use Rattle.json_print.specs.Written.{tokens_of}
 use Rattle.json_print.specs.ColumnData.{code_data, item_length, number_data, offset_data, text_data, truth_data, valid_data}
 use Rattle.json_print.specs.declared.slots.Part.{Part}

@@ -1,13 +1,10 @@
 -- A file as a text. (Arrow integration testing, "JSON test data format"; RFC 8259 for the text)
 use Rattle.std.specs.Prelude.{ℕ, List, codes, Bool, true, false}
 use Rattle.std.specs.List.{list_any}
-use Rattle.arrays.specs.File.{File}
-use Rattle.arrays.specs.Kind.{Kind, int, boolean, texts, lists, dict}
-use Rattle.arrays.specs.Shape.{FieldShape, kind_of_field}
-use Rattle.json_base.specs.Data.{Data, array, object, Members, no_members, member}
-use Rattle.json_base.specs.Written.{compact_text}
+use Rattle.arrays.specs.Prelude.{FieldShape, File, Kind, kind_of_field}
+use Rattle.arrays.specs.Kind.{int, boolean, texts, lists, dict}
+use Rattle.json_base.specs.Prelude.{Data, Members, Table, array, compact_text, member, no_members, object, tables_of}
 use Rattle.json_print.specs.BatchData.{batches_data}
-use Rattle.json_base.specs.JsonTable.{Table, tables_of}
 use Rattle.json_print.specs.Dictionaries.{dictionaries_from}
 use Rattle.json_print.specs.DictionaryData.{entries_data}
 use Rattle.json_print.specs.SchemaData.{schema_data}

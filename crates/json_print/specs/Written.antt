@@ -2,8 +2,7 @@
 use Rattle.std.specs.Prelude.{◌≡◌, ℕ, List, ◌++◌}
 use Rattle.json.specs.Token.{Token}
 use Rattle.json.specs.Tree.{json_tokens, items_tokens, members_tokens}
-use Rattle.json_base.specs.Data.{Data, Items, Members, unsigned, number}
-use Rattle.json_base.specs.Written.{outline, items_outline, members_outline}
+use Rattle.json_base.specs.Prelude.{Data, Items, Members, items_outline, members_outline, number, outline, unsigned}
 
 -- The tokens of a value. (RFC 8259, section 2)
 abbrev pub tokens_of : Data → List Token

@@ -1,10 +1,7 @@
 //! Batches as text.
 
 ghost use Rattle.std.specs.Prelude.{◌≡◌, OnOk, length, map};
-ghost use Rattle.arrays.specs.File.{kinds_of};
-ghost use Rattle.arrays.specs.Kind.{kind_of};
-ghost use Rattle.arrays.specs.Shape.{field_of, fields_of};
-ghost use Rattle.arrays.specs.Field.{out-Field};
+ghost use Rattle.arrays.specs.Prelude.{field_of, fields_of, kind_of, kinds_of, out-Field};
 ghost use Rattle.json_print.specs.BatchData.{batch_data, columns_data};
 ghost use Rattle.json_base.specs.JsonTable.{items_of, table_of};
 ghost use Rattle.json_print.specs.ColumnData.{column_data};

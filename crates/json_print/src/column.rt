@@ -2,10 +2,7 @@
 
 ghost use Rattle.std.specs.Prelude.{◌≡◌, All, OnOk};
 ghost use Rattle.arrays.specs.Kind as kind;
-ghost use Rattle.arrays.specs.Kind.{kind_of};
-ghost use Rattle.arrays.specs.Lengths.{inner_items, joined_items};
-ghost use Rattle.arrays.specs.Shape.{field_of};
-ghost use Rattle.arrays.specs.Field.{out-Field};
+ghost use Rattle.arrays.specs.Prelude.{field_of, inner_items, joined_items, kind_of, out-Field};
 ghost use Rattle.json_print.specs.ColumnData.{column_data, list_column, only, plain_column, sized, text_column};
 ghost use Rattle.json_print.specs.Slots.{AreOf, IsPartOf, code_in, part_data};
 ghost use Rattle.json_print.specs.Written.{Adds, AddsMembers};

@@ -2,17 +2,11 @@
 
 ghost use Rattle.std.specs.Prelude.{◌≡◌, ◌<◌, All, IfOk, OnOk, length, map, slice_index_or, true};
 ghost use Rattle.std.specs.Arc.{arc_value};
-ghost use Rattle.arrays.specs.File.{AreBatchesOf};
-ghost use Rattle.arrays.specs.Item.{null};
+ghost use Rattle.arrays.specs.Prelude.{AreBatchesOf, fields_of, is_text, kind_of, null, out-Field};
 ghost use Rattle.arrays.specs.Kind as kind;
-ghost use Rattle.arrays.specs.Kind.{kind_of};
-ghost use Rattle.arrays.specs.Shape.{fields_of};
-ghost use Rattle.arrays.specs.Slot.{is_text};
-ghost use Rattle.arrays.specs.Field.{out-Field};
-ghost use Rattle.pool.specs.Texts.{firsts, texts_of};
+ghost use Rattle.pool.specs.Prelude.{firsts, texts_of, with_item};
 ghost use Rattle.json_base.specs.JsonTable.{table_of, tables_of};
 ghost use Rattle.json_print.specs.Dictionaries.{IsEncodedAt, column_at, column_items, dictionaries_from, dictionary_of, with_items};
-ghost use Rattle.pool.specs.Places.{with_item};
 
 use crate::text_set::TextSet;
 use arrays::{DataType, Field, NoMemory, RecordBatch, View};

@@ -1,11 +1,9 @@
 //! The dictionaries of a file as text.
 
 ghost use Rattle.std.specs.Prelude.{◌≡◌, ◌++◌, OnOk, length, map, string_bytes};
-ghost use Rattle.arrays.specs.OffsetWidths.{Narrow};
-ghost use Rattle.arrays.specs.Shape.{field_of, fields_of};
+ghost use Rattle.arrays.specs.Prelude.{Narrow, field_of, fields_of};
 ghost use Rattle.json.specs.Tree.{items_tokens};
-ghost use Rattle.json_base.specs.Data.{Items, array};
-ghost use Rattle.json_base.specs.Written.{items_outline};
+ghost use Rattle.json_base.specs.Prelude.{Items, array, items_outline};
 ghost use Rattle.json_print.specs.ColumnData.{each, flags, offsets, text_column, text_data};
 ghost use Rattle.json_print.specs.DictionaryData.{entries_data, entry_data, text_batch, text_items, with_field};
 ghost use Rattle.json_print.specs.Written.{Adds, AddsItems};

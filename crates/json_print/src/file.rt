@@ -3,10 +3,7 @@
 ghost use Rattle.std.specs.Prelude.{◌≡◌, IfOk, OnOk, length, map, string_bytes};
 ghost use Rattle.std.specs.List.{list_any};
 ghost use Rattle.std.specs.Arc.{arc_value};
-ghost use Rattle.arrays.specs.File.{AreBatchesOf};
-ghost use Rattle.arrays.specs.Kind.{kind_of};
-ghost use Rattle.arrays.specs.Shape.{fields_of};
-ghost use Rattle.arrays.specs.Field.{out-Field};
+ghost use Rattle.arrays.specs.Prelude.{AreBatchesOf, fields_of, kind_of, out-Field};
 ghost use Rattle.json_print.specs.BatchData.{batches_data};
 ghost use Rattle.json_base.specs.JsonTable.{tables_of};
 ghost use Rattle.json_print.specs.Text.{document, has_dictionary, is_encoded, last_members, schema_member, text};

@@ -1,9 +1,7 @@
 //! What holds of the texts that are printed.
 
 ghost use Rattle.std.specs.Prelude.{◌≡◌, ◌≤◌, Some};
-ghost use Rattle.json_base.specs.Data.{Data, depth};
-ghost use Rattle.json_base.specs.Read.{max_depth, read};
-ghost use Rattle.json_base.specs.Written.{compact_text};
+ghost use Rattle.json_base.specs.Prelude.{Data, compact_text, depth, max_depth, read};
 ghost use Rattle.json_print.specs.Plain.{IsPlain};
 
 /// The compact text of a plain value is JSON of that value, and of no other.

@@ -1,10 +1,7 @@
 //! The items of lists as columns.
 
 ghost use Rattle.std.specs.Prelude.{◌≡◌, ◌++◌, ◌<◌, All, IfOk, OnOk, Some, length, slice_index_or, true};
-ghost use Rattle.arrays.specs.Item.{null};
-ghost use Rattle.arrays.specs.Kind.{Kind, item_kind};
-ghost use Rattle.arrays.specs.Lengths.{inner_items, items_in, joined_items};
-ghost use Rattle.arrays.specs.Slot.{is_list};
+ghost use Rattle.arrays.specs.Prelude.{Kind, inner_items, is_list, item_kind, items_in, joined_items, null};
 ghost use Rattle.json_print.specs.Slots.{AreOf};
 
 use arrays::{NoMemory, View};

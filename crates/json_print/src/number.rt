@@ -2,8 +2,8 @@
 
 ghost use Rattle.std.specs.Prelude.{◌^◌, ◌-◌, ◌≤ℤ◌, OnOk, neg_ℤ, pos};
 ghost use Rattle.std.specs.Fmt.{signed_decimal};
-ghost use Rattle.arrays.specs.Number.{IsOfType};
-ghost use Rattle.json_base.specs.Data.{string};
+ghost use Rattle.arrays.specs.Prelude.{IsOfType};
+ghost use Rattle.json_base.specs.Prelude.{string};
 ghost use Rattle.json_print.specs.ColumnData.{int_data, offset_data, whole_data};
 ghost use Rattle.json_print.specs.Written.{Adds};
 

@@ -1,8 +1,7 @@
 //! The schema of a file as text.
 
 ghost use Rattle.std.specs.Prelude.{OnOk, string_bytes};
-ghost use Rattle.arrays.specs.Shape.{field_of, fields_of, shape_of};
-ghost use Rattle.arrays.specs.Field.{out-Field};
+ghost use Rattle.arrays.specs.Prelude.{field_of, fields_of, out-Field, shape_of};
 ghost use Rattle.json_print.specs.Written.{Adds, AddsItems, AddsMembers};
 ghost use Rattle.json_print.specs.SchemaData.{children_data, dictionary_data, field_data, fields_data, int_type, named_members, named_type, other_members, schema_data, type_data};
 

@@ -1,13 +1,10 @@
 //! The slots of columns as text.
 
 ghost use Rattle.std.specs.Prelude.{◌≡◌, ◌+◌, ◌++◌, ◌<◌, All, IfOk, OnOk, length, slice_index_or, sum_by, true, option_copied};
-ghost use Rattle.arrays.specs.Item.{null};
-ghost use Rattle.arrays.specs.Slot.{item_of_text};
-ghost use Rattle.arrays.specs.Typed.{IsItemOf};
-ghost use Rattle.json_base.specs.Data.{array};
+ghost use Rattle.arrays.specs.Prelude.{IsItemOf, item_of_text, joined_items, null};
+ghost use Rattle.json_base.specs.Prelude.{array};
 ghost use Rattle.json_print.specs.ColumnData.{code_data, each, flag_data, item_length, offsets_data};
 ghost use Rattle.json_print.specs.Slots.{AddsEach, IsPartOf, code_in, is_sized, part_data, starts_tokens};
-ghost use Rattle.arrays.specs.Lengths.{joined_items};
 ghost use Rattle.json_print.specs.Written.{Adds, AddsItems};
 
 use crate::number::{write_number, write_offset};

@@ -4,10 +4,8 @@ use Rattle.std.specs.Ordering.{match_ordering}
 use Rattle.std.specs.declared.cmp.Ordering.{Ordering}
 use Rattle.std.specs.declared.cmp.Ordering.TheVariants.{Less, Equal, Greater}
 use Rattle.json_base.specs.Data as data'
-use Rattle.json_base.specs.Data.{Data, Items, no_items, item, Members, no_members, member, depth, items_depth, members_depth}
-use Rattle.json_base.specs.Find.{get_item, get_member, as_array}
+use Rattle.json_base.specs.Prelude.{Data, Items, Members, as_array, depth, get_item, get_member, item, items_depth, member, member_of, members_depth, no_items, no_members}
 use Rattle.json_base.specs.declared.path.Member.{Member}
-use Rattle.json_base.specs.JsonMember.{member_of}
 
 found-match : (o : Ordering) (p q : Option Data) (e : Data) (n : ℕ) → ((x : Data) → p ≡ Some x → depth x ≤ n) → ((x : Data) → q ≡ Some x → depth x ≤ n) → match_ordering o p q p ≡ Some e → depth e ≤ n
 found-match Less p q e n h k is = h e is

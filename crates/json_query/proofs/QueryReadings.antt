@@ -9,20 +9,11 @@ use Rattle.std.specs.declared.alloc.Global.{Global}
 use Rattle.query.specs.declared.expr.Expr.{Expr}
 use Rattle.query.specs.declared.expr.Expr.TheViews as views
 use Rattle.query.specs.declared.expr.Op.{Op}
-use Rattle.query.specs.QueryShape.{QueryShape}
-use Rattle.query.specs.Resolved.{renamed}
-use Rattle.query.specs.Tree.{Tree, op, trees, tree_of}
+use Rattle.query.specs.Prelude.{QueryShape, Tree, op, renamed, tree_of, trees}
 use Rattle.query.proofs.TreeLemmas.{tree_of-Op}
 use Rattle.query.proofs.ResolveLemmas.{all_renamed-trees}
 use Rattle.json_base.specs.Data as data'
-use Rattle.json_base.specs.Data.{Data, Items}
-use Rattle.json_base.specs.View.{items_view}
-use Rattle.json_base.specs.Value.{Value}
-use Rattle.json_base.specs.Events.{items_len}
-use Rattle.json_base.specs.Find.{as_array, as_null, as_str}
-use Rattle.json_base.specs.Read.{read}
-use Rattle.json_base.specs.FaultAt.{IsFault, IsUnder, Tells}
-use Rattle.json_base.specs.JsonMember.{IsObject, member_of, MemberFault, Unlike, NoDocument, no_document}
+use Rattle.json_base.specs.Prelude.{Data, IsFault, IsObject, IsUnder, Items, MemberFault, NoDocument, Tells, Unlike, Value, as_array, as_null, as_str, items_len, items_view, member_of, no_document, read}
 use Rattle.json_base.specs.declared.path.Member.TheVariants as member
 use Rattle.json_base.specs.declared.path.Step.{Step}
 use Rattle.json_base.specs.declared.path.Step.TheVariants as step
@@ -31,13 +22,9 @@ use Rattle.json_base.specs.declared.fault.JsonFaultKind.{JsonFaultKind}
 use Rattle.json_base.specs.declared.fault.JsonFaultKind.TheVariants.{NotJson, WrongMember}
 use Rattle.json_base.proofs.Views.{items_len-items_view}
 use Rattle.json_base.proofs.JsonTells.{tells_as, tells_wants}
-use Rattle.json_query.specs.Reading.{JsonReading, MayReport, wanted, faulty, chain, mapped, both, string_of, array_of, required, each_item, nested}
-use Rattle.json_query.specs.QueryDocument.{agg, agg_named, aggs, by, document_of, few, filter, query_of, shape, query_text, ReadsQueryText}
-use Rattle.json_query.specs.QueryExpr.{with_count, expr, expr_with, formed, named_tree, operator_of, with_arguments}
-use Rattle.json_query.specs.QueryForm.{form_of, operand_count}
+use Rattle.json_query.specs.Prelude.{JsonReading, MayReport, QueryBytesFault, ReadsQueryText, agg, agg_named, aggs, array_of, both, by, chain, document_of, each_item, expr, expr_with, faulty, few, filter, form_of, formed, mapped, named_tree, nested, operand_count, operator_of, query_of, query_text, required, shape, string_of, wanted, with_arguments, with_count}
 use Rattle.json_query.specs.declared.form.Form.{Form}
 use Rattle.json_query.specs.declared.form.Form.TheVariants as form
-use Rattle.json_query.specs.QueryDocumentFault.{QueryBytesFault}
 use Rattle.json_query.proofs.Readings.{wanted_ok, chain_ok, both_ok, required_ok, nested_ok, chain_first, chain_next, both_left, both_right, required_told, object_told, nested_told, under_told, optional_told, faulty_told, no_fault, stands_first}
 
 -- what has a form is an object

@@ -7,14 +7,8 @@ use Rattle.std.specs.Cmp.Lexicographic.{slice_cmp}
 use Rattle.std.specs.declared.cmp.Ordering.{Ordering}
 use Rattle.std.specs.declared.cmp.Ordering.TheVariants.{Less, Equal, Greater}
 use Rattle.json_base.specs.Data as data'
-use Rattle.json_base.specs.Data.{Data, Items, no_items, item, Members, no_members, member}
-use Rattle.json_base.specs.Find.{get_item, get_member, as_array, as_object}
-use Rattle.json_base.specs.View.{view, items_view}
-use Rattle.json_base.specs.Value.{Value}
-use Rattle.json_base.specs.FaultAt.{fault_at, IsFault, IsUnder, Tells}
-use Rattle.json_base.specs.JsonPath.{member_name}
+use Rattle.json_base.specs.Prelude.{Data, EachFault, IsFault, IsObject, IsUnder, Items, MemberFault, Members, Missing, ReadsEach, ReadsFirst, Tells, Unlike, Value, absent, as_array, as_object, fault_at, get_item, get_member, item, items_view, member, member_name, member_of, missing, no_items, no_members, unlike, view, wrong}
 use Rattle.json_base.specs.JsonMember as at
-use Rattle.json_base.specs.JsonMember.{IsObject, member_of, Unlike, unlike, Missing, missing, MemberFault, absent, wrong, EachFault, ReadsEach, ReadsFirst}
 use Rattle.json_base.specs.declared.path.Member.{Member}
 use Rattle.json_base.specs.declared.path.Step.{Step}
 use Rattle.json_base.specs.declared.path.Step.TheVariants as step

@@ -4,3 +4,4 @@ pub mod QueryForm
 pub mod QueryExpr
 pub mod QueryDocument
 pub mod QueryDocumentFault
+pub mod Prelude

@@ -3,13 +3,8 @@ use Rattle.std.specs.Prelude.{◌≡◌, ℕ, List, [], ◌∷◌, codes, if◌t
 use Rattle.std.specs.Str.{bytes_eq, is_utf8}
 use Rattle.query.specs.declared.expr.Agg.{Agg}
 use Rattle.query.specs.declared.expr.Agg.TheVariants.{Rows, Count, Sum, Least, Greatest}
-use Rattle.query.specs.QueryShape.{QueryShape}
-use Rattle.query.specs.Tree.{Tree}
-use Rattle.json_base.specs.Data.{Data, Items, no_items}
-use Rattle.json_base.specs.Find.{as_null}
-use Rattle.json_base.specs.Events.{items_len}
-use Rattle.json_base.specs.Read.{read}
-use Rattle.json_base.specs.JsonMember.{member_of}
+use Rattle.query.specs.Prelude.{QueryShape, Tree}
+use Rattle.json_base.specs.Prelude.{Data, Items, as_null, items_len, member_of, no_items, read}
 use Rattle.json_base.specs.declared.path.Member.{Member}
 use Rattle.json_base.specs.declared.path.Member.TheVariants as member
 use Rattle.json_base.specs.declared.path.Step.TheVariants as step

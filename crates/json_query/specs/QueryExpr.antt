@@ -4,10 +4,8 @@ use Rattle.std.specs.declared.string.String.{String}
 use Rattle.std.specs.declared.alloc.Global.{Global}
 use Rattle.query.specs.declared.expr.Op.{Op}
 use Rattle.query.specs.declared.expr.Expr.{Expr}
-use Rattle.query.specs.Resolved.{renamed}
-use Rattle.query.specs.Tree.{Tree, column, int, text, op, trees, tree_of}
-use Rattle.json_base.specs.Data.{Data, Items}
-use Rattle.json_base.specs.Events.{items_len}
+use Rattle.query.specs.Prelude.{Tree, column, int, op, renamed, text, tree_of, trees}
+use Rattle.json_base.specs.Prelude.{Data, Items, items_len}
 use Rattle.json_base.specs.declared.path.Member.{Member}
 use Rattle.json_base.specs.declared.path.Member.TheVariants as member
 use Rattle.json_base.specs.declared.path.Step.TheVariants as step

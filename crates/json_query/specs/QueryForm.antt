@@ -3,14 +3,10 @@ use Rattle.std.specs.Prelude.{ℕ, ℤ, List, [], ◌∷◌, codes, Bool, true, 
 use Rattle.std.specs.Option.{option_or}
 use Rattle.std.specs.Map.{lookup}
 use Rattle.std.specs.Str.{bytes_eq}
-use Rattle.arrays.specs.IntType.{IntType}
-use Rattle.arrays.specs.Widths.{W64}
+use Rattle.arrays.specs.Prelude.{IntType, W64, int64}
 use Rattle.query.specs.declared.expr.Op.{Op}
 use Rattle.query.specs.declared.expr.Op.TheVariants as op
-use Rattle.arrays.specs.Kind.{int64}
-use Rattle.json_base.specs.Data.{Data}
-use Rattle.json_base.specs.JsonMember.{member_of}
-use Rattle.json_base.specs.JsonNumber.{integer_of}
+use Rattle.json_base.specs.Prelude.{Data, integer_of, member_of}
 use Rattle.json_base.specs.declared.path.Member.{Member}
 use Rattle.json_base.specs.declared.path.Member.TheVariants as member
 use Rattle.json_query.specs.declared.form.Form.{Form}

@@ -2,11 +2,7 @@
 use Rattle.std.specs.Prelude.{ℕ, ◌+◌, List, [], ◌∷◌, ◌++◌, map, Option, None, Some, Result, Ok, Err, ok_or, Contains}
 use Rattle.std.specs.Ordering.{nat_cmp, match_ordering}
 use Rattle.std.specs.Cmp.Lexicographic.{slice_cmp}
-use Rattle.json_base.specs.Data.{Data, array, object, Items, no_items, item, Members, no_members, member}
-use Rattle.json_base.specs.Find.{as_array, as_object, as_str}
-use Rattle.json_base.specs.FaultAt.{fault_at}
-use Rattle.json_base.specs.JsonMember.{member_of}
-use Rattle.json_base.specs.JsonPath.{member_name}
+use Rattle.json_base.specs.Prelude.{Data, Items, Members, array, as_array, as_object, as_str, fault_at, item, member, member_name, member_of, no_items, no_members, object}
 use Rattle.json_base.specs.declared.path.Member.{Member}
 use Rattle.json_base.specs.declared.path.Step.{Step}
 use Rattle.json_base.specs.declared.path.Step.TheVariants as step

@@ -2,8 +2,7 @@
 
 ghost use Rattle.std.specs.Prelude.{◌≡◌, Ok, IfOk, IfErr, string_bytes};
 ghost use Rattle.query.specs.Resolved.{renamed_agg};
-ghost use Rattle.json_base.specs.View.{view};
-ghost use Rattle.json_base.specs.FaultAt.{Tells};
+ghost use Rattle.json_base.specs.Prelude.{Tells, view};
 ghost use Rattle.json_query.specs.Reading.{MayReport};
 ghost use Rattle.json_query.specs.QueryDocument.{agg};
 

@@ -1,10 +1,7 @@
 //! The objects of expressions.
 
 ghost use Rattle.std.specs.Prelude.{◌≡◌, Some, Ok, IfOk, IfErr, option_and_then, map};
-ghost use Rattle.json_base.specs.Find.{as_array};
-ghost use Rattle.json_base.specs.View.{view, items_view};
-ghost use Rattle.json_base.specs.FaultAt.{Tells};
-ghost use Rattle.json_base.specs.JsonMember.{IsObject, member_of};
+ghost use Rattle.json_base.specs.Prelude.{IsObject, Tells, as_array, items_view, member_of, view};
 ghost use Rattle.json_base.specs.declared.path.Member.TheVariants as member;
 ghost use Rattle.json_base.specs.declared.fault.JsonFaultKind.TheVariants.{BadNumber};
 ghost use Rattle.json_query.specs.Reading.{MayReport, each_item, nested, required, wanted};

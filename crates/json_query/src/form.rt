@@ -1,7 +1,7 @@
 //! What an expression's object is.
 
 ghost use Rattle.std.specs.Prelude.{◌≡◌};
-ghost use Rattle.json_base.specs.View.{view};
+ghost use Rattle.json_base.specs.Prelude.{view};
 ghost use Rattle.json_query.specs.QueryForm.{form_of, has, literal_of, op_named, operand_count};
 
 use arrays::{INT64, IntType, Width};

@@ -2,8 +2,7 @@
 
 ghost use Rattle.std.specs.Prelude.{◌≡◌, ◌≤◌, Ok, IfOk, IfErr, length, map, string_bytes};
 ghost use Rattle.query.specs.Resolved.{renamed_agg};
-ghost use Rattle.json_base.specs.View.{view, items_view};
-ghost use Rattle.json_base.specs.FaultAt.{Tells};
+ghost use Rattle.json_base.specs.Prelude.{Tells, items_view, view};
 ghost use Rattle.json_query.specs.Reading.{MayReport, each_item, string_of};
 ghost use Rattle.json_query.specs.QueryDocument.{agg, aggs, by, list_in};
 

@@ -1,8 +1,6 @@
 ghost use Rattle.std.specs.Prelude.{◌≡◌, Ok, IfOk, IfErr, option_map, string_bytes};
-ghost use Rattle.query.specs.Resolved.{named, renamed};
-ghost use Rattle.query.specs.Tree.{tree_of};
-ghost use Rattle.json_base.specs.View.{view};
-ghost use Rattle.json_base.specs.FaultAt.{Tells};
+ghost use Rattle.query.specs.Prelude.{named, renamed, tree_of};
+ghost use Rattle.json_base.specs.Prelude.{Tells, view};
 ghost use Rattle.json_query.specs.Reading.{MayReport};
 ghost use Rattle.json_query.specs.QueryDocument.{ReadsQueryText, filter, query_of};
 ghost use Rattle.json_query.specs.QueryDocumentFault.{QueryBytesFault};

@@ -1,9 +1,7 @@
 //! Texts of members.
 
 ghost use Rattle.std.specs.Prelude.{◌≡◌, Ok, IfOk, IfErr, string_bytes};
-ghost use Rattle.json_base.specs.View.{view};
-ghost use Rattle.json_base.specs.FaultAt.{Tells};
-ghost use Rattle.json_base.specs.JsonMember.{IsObject};
+ghost use Rattle.json_base.specs.Prelude.{IsObject, Tells, view};
 ghost use Rattle.json_query.specs.Reading.{MayReport, required, string_of};
 
 use json_base::member::{owned, text_member};

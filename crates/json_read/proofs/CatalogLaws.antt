@@ -2,28 +2,13 @@
 use Rattle.std.proofs.Common.{◌≡◌, ◌∙◌, ℕ, ℤ, List, Option, Some, None, option_and_then, refl, sym, ap, subst, arith}
 use Rattle.std.proofs.lemmas.Bool.{false≢true}
 use Rattle.std.proofs.lemmas.Option.{slice_get_within}
-use Rattle.arrays.specs.IntType.{IntType}
-use Rattle.arrays.specs.OffsetWidths.{Narrow}
-use Rattle.arrays.specs.Item.{Item}
+use Rattle.arrays.specs.Prelude.{IntType, Item, Narrow}
 use Rattle.json_base.specs.Data as data'
-use Rattle.json_base.specs.Data.{Data, Items, item, no_items}
-use Rattle.json_base.specs.Find.{get_item, as_array, as_object}
+use Rattle.json_base.specs.Prelude.{Data, EachFault, IsObject, Items, ListFault, ReadsEach, as_array, as_object, count_of, get_item, item, member_of, no_items}
 use Rattle.json_base.specs.declared.path.Member.TheVariants as member
 use Rattle.json_base.specs.declared.path.Step.{Step}
 use Rattle.json_base.specs.declared.fault.JsonFaultKind.{JsonFaultKind}
-use Rattle.json_base.specs.JsonMember.{IsObject, member_of, ListFault, EachFault, ReadsEach}
-use Rattle.json_base.specs.JsonNumber.{count_of}
-use Rattle.json_read.specs.JsonSchema.{ReadsInt, only_item}
-use Rattle.json_read.specs.JsonColumn.{texts, slot_of, ReadsPlain}
-use Rattle.json_read.specs.JsonColumnFault.{ColumnFault}
-use Rattle.json_read.specs.JsonCodes.{entry_at, indices, ReadsCodes}
-use Rattle.json_read.specs.JsonCodesFault.{IndicesFault, no_index_flag, no_index, past_dictionary, CodesFault, no_code_slots, bad_codes}
-use Rattle.json_read.specs.JsonDictionary.{ReadsTexts, WrapsTexts, bare, wrapped, ReadsEntry}
-use Rattle.json_read.specs.JsonDictionaryFault.{TextsFault, no_texts_object, bad_texts_count, bad_texts_list, bad_texts, WrapperFault, no_batch, bad_bare, bad_wrapped, EntryFault}
-use Rattle.json_read.specs.JsonEncoding.{Encoding, HasEncoding, IsEncoding, id_of}
-use Rattle.json_read.specs.JsonEncodingFault.{EncodedFault}
-use Rattle.json_read.specs.JsonCatalog.{Coding, HasId, HasEntries, HasDictionary, IsEncodedBy, HasCoding, HasCatalog}
-use Rattle.json_read.specs.JsonCatalogFault.{NoId, no_entry_object, bad_entry_id, EntriesFault, no_entries, bad_numbers, NamedFault, nowhere, again, bad_entry, NamesEncoding, CatalogFault, bad_encodings, bad_entries, bad_named}
+use Rattle.json_read.specs.Prelude.{CatalogFault, CodesFault, Coding, ColumnFault, EncodedFault, Encoding, EntriesFault, EntryFault, HasCatalog, HasCoding, HasDictionary, HasEncoding, HasEntries, HasId, IndicesFault, IsEncodedBy, IsEncoding, NamedFault, NamesEncoding, NoId, ReadsCodes, ReadsEntry, ReadsInt, ReadsPlain, ReadsTexts, TextsFault, WrapperFault, WrapsTexts, again, bad_bare, bad_codes, bad_encodings, bad_entries, bad_entry, bad_entry_id, bad_named, bad_numbers, bad_texts, bad_texts_count, bad_texts_list, bad_wrapped, bare, entry_at, id_of, indices, no_batch, no_code_slots, no_entries, no_entry_object, no_index, no_index_flag, no_texts_object, nowhere, only_item, past_dictionary, slot_of, texts, wrapped}
 use Rattle.json_base.proofs.MemberLaws.{has_object, no_null, inner, no_object, not_unlike, no_member, under_law, get_item-within, slice_get_some, each_law, same_each}
 use Rattle.json_read.proofs.ColumnLaws.{list_law, no_flag_law, valid_law, slot_read, no_slots_law, plain_law, same_plain}
 use Rattle.json_read.proofs.SchemaLaws.{encoded_law, encoding_object, without_law, same_int}

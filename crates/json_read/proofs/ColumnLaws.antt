@@ -5,21 +5,13 @@ use Rattle.std.proofs.lemmas.Bool.{false≢true}
 use Rattle.std.proofs.lemmas.Bool.Decides.{nat_tests}
 use Rattle.std.proofs.lemmas.List.Sums.{sum_by-cons}
 use Rattle.std.proofs.lemmas.Option.{slice_get_within}
-use Rattle.arrays.specs.OffsetWidth.{OffsetWidth}
-use Rattle.arrays.specs.OffsetWidths.{Narrow, Wide}
-use Rattle.arrays.specs.Item.{Item}
+use Rattle.arrays.specs.Prelude.{Item, Narrow, OffsetWidth, Wide, text_bytes, text_length}
 use Rattle.json_base.specs.Data as data'
-use Rattle.json_base.specs.Data.{Data, Items}
-use Rattle.json_base.specs.Find.{get_item, as_null, as_array, as_object}
-use Rattle.json_base.specs.Events.{items_len}
+use Rattle.json_base.specs.Prelude.{Data, Items, ListFault, as_array, as_null, as_object, count_of, get_item, items_len, length_differs, member_of, no_array}
 use Rattle.json_base.specs.declared.path.Member.TheVariants as member
 use Rattle.json_base.specs.declared.path.Step.{Step}
 use Rattle.json_base.specs.declared.fault.JsonFaultKind.{JsonFaultKind}
-use Rattle.json_base.specs.JsonMember.{member_of, ListFault, no_array, length_differs}
-use Rattle.json_base.specs.JsonNumber.{count_of}
-use Rattle.json_read.specs.JsonColumn.{Spelling, is_past_offsets, overflows, flags_of, HasFlags, flagged_at, slot_of, ReadsSlots, HasSlots, ReadsPlain}
-use Rattle.arrays.specs.Lengths.{text_length, text_bytes}
-use Rattle.json_read.specs.JsonColumnFault.{CountFault, no_count, other_count, FlagsFault, no_flags, NoSlots, no_column_object, bad_count, bad_flags, bad_values, SlotsFault, no_flag, no_value, too_long, ColumnFault, no_slots, bad_slots}
+use Rattle.json_read.specs.Prelude.{ColumnFault, CountFault, FlagsFault, HasFlags, HasSlots, NoSlots, ReadsPlain, ReadsSlots, SlotsFault, Spelling, bad_count, bad_flags, bad_slots, bad_values, flagged_at, flags_of, is_past_offsets, no_column_object, no_count, no_flag, no_flags, no_slots, no_value, other_count, overflows, slot_of, too_long}
 use Rattle.json_base.proofs.MemberLaws.{inner, no_object, not_unlike, no_member, under_law, get_item-within, slice_get_some, same_lists}
 
 -- ---- columns

@@ -1,17 +1,12 @@
 -- The text of one field: why its faults stand, and what follows of it.
 use Rattle.std.proofs.Common.{◌≡◌, ℕ, List, Some, IsUtf8, subst}
-use Rattle.arrays.specs.Shape.{FieldShape}
-use Rattle.json_base.specs.Data.{Data}
-use Rattle.json_base.specs.Read.{read}
+use Rattle.arrays.specs.Prelude.{FieldShape}
+use Rattle.json_base.specs.Prelude.{Data, NoDocument, Tells, no_document, read}
 use Rattle.json_base.specs.declared.path.Step.{Step}
 use Rattle.json_base.specs.declared.fault.JsonFault.{JsonFault}
 use Rattle.json_base.specs.declared.fault.JsonFaultKind.{JsonFaultKind}
-use Rattle.json_base.specs.FaultAt.{Tells}
-use Rattle.json_base.specs.JsonMember.{NoDocument, no_document}
 use Rattle.json_base.proofs.JsonTells.{tells_as, tells_wants}
-use Rattle.json_read.specs.JsonField.{FieldTextFault, IsFieldText, bad_field_text, no_field_text}
-use Rattle.json_read.specs.JsonFields.{ReadsField}
-use Rattle.json_read.specs.JsonFieldsFault.{TopFault}
+use Rattle.json_read.specs.Prelude.{FieldTextFault, IsFieldText, ReadsField, TopFault, bad_field_text, no_field_text}
 use Rattle.json_read.proofs.SchemaLaws.{field_law, same_field}
 
 none_text : (bytes : List ℕ) (k : JsonFaultKind) (p : List Step) → NoDocument bytes k p → FieldTextFault bytes k p

@@ -4,30 +4,17 @@ use Rattle.std.specs.List.{slice_get}
 use Rattle.std.proofs.lemmas.List.{length-map}
 use Rattle.std.proofs.lemmas.Option.{slice_get-map, slice_get_within, slice_get_read}
 use Rattle.arrays.specs.Kind as kind
-use Rattle.arrays.specs.Kind.{kind_of, Kind}
-use Rattle.arrays.specs.Shape.{FieldShape, field_of, fields_of, kind_of_field}
-use Rattle.arrays.specs.Field.{Field, out-Field}
+use Rattle.arrays.specs.Prelude.{Field, FieldShape, Kind, Seen, field_of, fields_of, kind_of, kind_of_field, out-Field}
 use Rattle.arrays.proofs.ShapeLemmas.{kind_of_field-field_of}
-use Rattle.json_base.specs.Find.{get_item, as_array, as_object}
-use Rattle.json_base.specs.View.{view, items_view}
-use Rattle.json_base.specs.Value.{Value}
+use Rattle.json_base.specs.Prelude.{Data, IsFault, IsUnder, Items, ListFault, MemberFault, Tells, Unlike, Value, as_array, as_object, count_of, get_item, items_view, member_of, view}
 use Rattle.json_base.specs.declared.path.Member.TheVariants as member
 use Rattle.json_base.specs.declared.path.Step.TheVariants as step
-use Rattle.json_base.specs.JsonMember.{member_of, Unlike, MemberFault, ListFault}
-use Rattle.json_base.specs.JsonNumber.{count_of}
 use Rattle.json_base.proofs.JsonItems.{slice_get-front, slice_get-last}
 use Rattle.json_read.proofs.JsonColumnFaults.{at_index}
-use Rattle.arrays.specs.Seen.{Seen}
-use Rattle.json_base.specs.Data.{Data, Items}
 use Rattle.json_base.specs.declared.fault.JsonFault.{JsonFault}
 use Rattle.json_base.specs.declared.fault.JsonFaultKind.TheVariants.{UnsupportedType}
-use Rattle.json_base.specs.FaultAt.{Tells, IsFault, IsUnder}
-use Rattle.json_read.specs.JsonBatch.{HoldsColumn, HoldsTop, HoldsColumns, IsCatalogOf}
-use Rattle.json_read.specs.JsonCatalog.{Coding}
-use Rattle.json_read.specs.JsonCodes.{ReadsCodes}
-use Rattle.json_read.specs.CatalogParts.{coding_of}
+use Rattle.json_read.specs.Prelude.{BatchFault, CodedFault, Coding, ColumnsFault, HoldsColumn, HoldsColumns, HoldsTop, IsCatalogOf, KindFault, ReadsCodes, Unread, bad_column, bad_columns, bad_list, bad_rows, coding_of, no_batch_object, unread}
 use Rattle.json_read.specs.declared.catalog.Coding as reader
-use Rattle.json_read.specs.JsonBatchFault.{KindFault, CodedFault, Unread, unread, ColumnsFault, bad_column, BatchFault, no_batch_object, bad_rows, bad_list, bad_columns}
 use Rattle.json_base.proofs.JsonTells.{tells_at, tells_as, tells_under, tells_wants}
 
 pub tells_unread : (k : Kind) (n : ℕ) (d : Data) (f : JsonFault) → (Unread UnsupportedType [] → KindFault k n d UnsupportedType []) → IsFault UnsupportedType [] f → Tells (KindFault k n d) f

@@ -7,33 +7,21 @@ use Rattle.std.specs.Map.{lookup}
 use Rattle.std.specs.Ordering.{int_cmp}
 use Rattle.std.specs.declared.alloc.Global.{Global}
 use Rattle.std.specs.declared.sync.Arc.{Arc}
-use Rattle.arrays.specs.Seen.{Seen}
+use Rattle.arrays.specs.Prelude.{Seen}
 use Rattle.std.proofs.lemmas.Option.{slice_get_within, slice_get-get_or, slice_get-map}
-use Rattle.json_base.specs.Data.{Data, Items, no_items, item}
-use Rattle.json_base.specs.Events.{items_len}
-use Rattle.json_base.specs.Find.{get_item, as_array, as_object}
-use Rattle.json_base.specs.View.{items_view}
-use Rattle.json_base.specs.Value.{Value}
+use Rattle.json_base.specs.Prelude.{Data, EachFault, IsFault, IsObject, IsUnder, Items, MemberFault, ReadsEach, ReadsFirst, Tells, Unlike, Value, as_array, as_object, get_item, item, items_len, items_view, member_of, no_items}
 use Rattle.json_base.proofs.Views.{items_len-items_view}
 use Rattle.json_base.specs.declared.path.Member.TheVariants as member
 use Rattle.json_base.specs.declared.path.Step.{Step}
 use Rattle.json_base.specs.declared.path.Step.TheVariants as step
-use Rattle.json_read.specs.EncodingParts.{parts_of}
+use Rattle.json_read.specs.Prelude.{AreCodings, AreNumbered, ArePlaces, AreWordsOf, CatalogFault, CodingsFault, Encoding, EntriesFault, EntryFault, HasCatalog, HasCoding, HasEncoding, HasEncodings, HasEntries, HasId, HasSome, IsBefore, IsCoding, IsCodingAt, IsNoDictionary, IsNumberPlace, NamedFault, NamesEncoding, NoId, again, bad_coding, bad_entries, bad_entry, bad_entry_id, bad_named, bad_numbers, id_of, ids_of, listed_fields, no_entries, no_entry_object, nowhere, parts_of, place_at}
 use Rattle.json_read.specs.declared.encoding.Encoding as reader
 use Rattle.json_read.specs.declared.place.Place.{Place}
 use Rattle.json_read.specs.declared.place.Place.TheVariants.{Nowhere, Again}
 use Rattle.json_base.specs.declared.fault.JsonFault.{JsonFault}
 use Rattle.json_base.specs.declared.fault.JsonFaultKind.{JsonFaultKind}
 use Rattle.json_base.specs.declared.fault.JsonFaultKind.TheVariants.{NoDictionary, DictionaryTwice}
-use Rattle.json_read.specs.CatalogParts.{HasEncodings, HasSome, IsNoDictionary, IsCoding, IsCodingAt, AreCodings, AreNumbered, AreWordsOf, ids_of}
-use Rattle.json_read.specs.PlaceParts.{IsNumberPlace, IsBefore, ArePlaces, place_at}
-use Rattle.json_base.specs.FaultAt.{IsFault, IsUnder, Tells}
-use Rattle.json_base.specs.JsonMember.{member_of, IsObject, Unlike, MemberFault, EachFault, ReadsEach, ReadsFirst}
-use Rattle.json_read.specs.JsonEncoding.{Encoding, HasEncoding, id_of}
-use Rattle.json_read.specs.JsonDictionaryFault.{EntryFault}
 use Rattle.json_read.specs.JsonCatalog as catalog
-use Rattle.json_read.specs.JsonCatalog.{listed_fields, HasId, HasEntries, HasCoding, HasCatalog}
-use Rattle.json_read.specs.JsonCatalogFault.{NoId, no_entry_object, bad_entry_id, EntriesFault, no_entries, bad_numbers, NamedFault, nowhere, again, bad_entry, CodingsFault, bad_coding, NamesEncoding, CatalogFault, bad_entries, bad_named}
 use Rattle.json_base.proofs.JsonTells.{tells_at, tells_as, tells_under, tells_wants}
 use Rattle.json_base.proofs.MemberLaws.{has_object}
 use Rattle.json_base.proofs.JsonItems.{slice_get-front, slice_get-last, get_item_some, first_pushed}

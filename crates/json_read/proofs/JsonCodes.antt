@@ -6,26 +6,14 @@ use Rattle.std.proofs.lemmas.Int.{ints}
 use Rattle.std.proofs.lemmas.List.{length-map, map-append}
 use Rattle.std.proofs.lemmas.List.Elements.{All-push}
 use Rattle.std.proofs.lemmas.Option.{slice_get-get_or, slice_get_past}
-use Rattle.arrays.specs.IntType.{IntType}
+use Rattle.arrays.specs.Prelude.{Column, IntType, IsOfType, Item, int, int32, is_code, looked_up, natural, null}
 use Rattle.arrays.specs.LayoutFaults as layout
-use Rattle.arrays.specs.Column.{Column}
-use Rattle.arrays.specs.Dictionary.{is_code, looked_up}
-use Rattle.arrays.specs.Item.{Item, null, int}
-use Rattle.arrays.specs.Kind.{int32}
-use Rattle.arrays.specs.Number.{IsOfType, natural}
-use Rattle.json_base.specs.Data.{Data, Items}
-use Rattle.json_base.specs.Find.{get_item}
+use Rattle.json_base.specs.Prelude.{Data, IsFault, Items, Tells, get_item, integer_of}
 use Rattle.json_base.specs.declared.path.Member.TheVariants as member
 use Rattle.json_base.specs.declared.path.Step.TheVariants as step
 use Rattle.json_base.specs.declared.fault.JsonFault.{JsonFault}
 use Rattle.json_base.specs.declared.fault.JsonFaultKind.TheVariants.{WrongMember, BadNumber, Layout}
-use Rattle.json_read.specs.CodeParts.{HoldsCodes}
-use Rattle.json_base.specs.FaultAt.{IsFault, Tells}
-use Rattle.json_base.specs.JsonNumber.{integer_of}
-use Rattle.json_read.specs.JsonColumn.{flagged_at, ReadsSlots, HasSlots}
-use Rattle.json_read.specs.JsonColumnFault.{NoSlots}
-use Rattle.json_read.specs.JsonCodes.{entry_at, indices, ReadsCodes}
-use Rattle.json_read.specs.JsonCodesFault.{IndicesFault, no_index_flag, no_index, past_dictionary, CodesFault, no_code_slots, bad_codes}
+use Rattle.json_read.specs.Prelude.{CodesFault, HasSlots, HoldsCodes, IndicesFault, NoSlots, ReadsCodes, ReadsSlots, bad_codes, entry_at, flagged_at, indices, no_code_slots, no_index, no_index_flag, past_dictionary}
 use Rattle.json_base.proofs.JsonTells.{tells_at, tells_as, tells_wants}
 use Rattle.json_read.proofs.JsonSlots.{no_slots_yet, slots_pushed, valid_slot, null_slot}
 

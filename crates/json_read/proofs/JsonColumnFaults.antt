@@ -1,10 +1,7 @@
 -- Why a fault of a column stands.
 use Rattle.std.proofs.Common.{◌≡◌, ◌≢◌, ◌∙◌, ℕ, ◌<◌, false, get_or, length, List, [], ◌∷◌, Option, Some, None, option_and_then, option_map, IfSome, sym, ap, subst}
-use Rattle.json_base.specs.Data.{Data, Items}
-use Rattle.json_base.specs.Find.{get_item, as_array, as_null, as_object}
+use Rattle.json_base.specs.Prelude.{Data, IsFault, IsUnder, Items, ListFault, MemberFault, Tells, Unlike, Value, as_array, as_null, as_object, count_of, get_item, items_view, length_differs, member_of, no_array, view, wrong}
 use Rattle.json_base.proofs.Views.{items_len-items_view, get_item_within}
-use Rattle.json_base.specs.View.{view, items_view}
-use Rattle.json_base.specs.Value.{Value}
 use Rattle.json_base.specs.declared.path.Member.{Member}
 use Rattle.json_base.specs.declared.path.Member.TheVariants as member
 use Rattle.json_base.specs.declared.path.Step.{Step}
@@ -12,19 +9,10 @@ use Rattle.json_base.specs.declared.path.Step.TheVariants as step
 use Rattle.json_base.specs.declared.fault.JsonFault.{JsonFault}
 use Rattle.json_base.specs.declared.fault.JsonFaultKind.{JsonFaultKind}
 use Rattle.json_base.specs.declared.fault.JsonFaultKind.TheVariants.{WrongMember, CountDiffers}
-use Rattle.json_base.specs.FaultAt.{IsFault, IsUnder, Tells}
-use Rattle.json_base.specs.JsonMember.{member_of, Unlike, MemberFault, wrong, ListFault, no_array, length_differs}
-use Rattle.json_base.specs.JsonNumber.{count_of}
 use Rattle.arrays.specs.Kind as kind
-use Rattle.arrays.specs.Kind.{Kind}
-use Rattle.arrays.specs.Seen.{Seen}
-use Rattle.arrays.specs.IntType.{IntType}
-use Rattle.arrays.specs.OffsetWidth.{OffsetWidth}
+use Rattle.arrays.specs.Prelude.{IntType, Kind, OffsetWidth, Seen}
 use Rattle.json_read.specs.declared.column.Slots.{Slots}
-use Rattle.json_read.specs.SlotParts.{flags_in, values_in}
-use Rattle.json_read.specs.JsonBatch.{HoldsColumn, ReadsColumn}
-use Rattle.json_read.specs.JsonColumnFault.{CountFault, no_count, other_count, FlagsFault, no_flags, NoSlots, no_column_object, bad_count, bad_flags, bad_values, SlotsFault, ColumnFault, no_slots, bad_slots}
-use Rattle.json_read.specs.JsonColumn.{Spelling, numbers, truths, texts, overflows, flags_of, HasFlags, ReadsSlots, HasSlots, ReadsPlain}
+use Rattle.json_read.specs.Prelude.{ColumnFault, CountFault, FlagsFault, HasFlags, HasSlots, HoldsColumn, NoSlots, ReadsColumn, ReadsPlain, ReadsSlots, SlotsFault, Spelling, bad_count, bad_flags, bad_slots, bad_values, flags_in, flags_of, no_column_object, no_count, no_flags, no_slots, numbers, other_count, overflows, texts, truths, values_in}
 use Rattle.json_base.proofs.JsonTells.{tells_at, tells_as, tells_under, tells_absent, tells_wants}
 
 pub tells_count : (n : ℕ) (d : Data) (f : JsonFault) → Tells (MemberFault member.Count (Unlike count_of) d) f → Tells (CountFault n d) f

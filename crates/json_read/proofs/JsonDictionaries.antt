@@ -1,25 +1,15 @@
 -- Why a fault of a dictionary stands.
 use Rattle.std.proofs.Common.{◌≡◌, ℕ, List, [], ◌∷◌, Some, None, option_and_then}
-use Rattle.arrays.specs.OffsetWidths.{Narrow}
-use Rattle.arrays.specs.Seen.{Seen}
+use Rattle.arrays.specs.Prelude.{Narrow, Seen}
 use Rattle.arrays.specs.Kind as kind
-use Rattle.json_base.specs.Data.{Data, item, no_items}
-use Rattle.json_base.specs.Find.{as_array, as_object}
+use Rattle.json_base.specs.Prelude.{Data, IsFault, IsObject, IsUnder, ListFault, MemberFault, Missing, Tells, Unlike, absent, as_array, as_object, count_of, item, member_of, no_items, wrong}
 use Rattle.json_base.specs.declared.path.Member.TheVariants as member
 use Rattle.json_base.specs.declared.path.Step.{Step}
 use Rattle.json_base.specs.declared.path.Step.TheVariants as step
 use Rattle.json_base.specs.declared.fault.JsonFault.{JsonFault}
 use Rattle.json_base.specs.declared.fault.JsonFaultKind.{JsonFaultKind}
 use Rattle.json_base.specs.declared.fault.JsonFaultKind.TheVariants.{WrongMember}
-use Rattle.json_base.specs.FaultAt.{IsFault, IsUnder, Tells}
-use Rattle.json_base.specs.JsonMember.{IsObject, member_of, Unlike, Missing, MemberFault, ListFault, absent, wrong}
-use Rattle.json_base.specs.JsonNumber.{count_of}
-use Rattle.json_read.specs.JsonSchema.{only_item}
-use Rattle.json_read.specs.JsonColumn.{texts}
-use Rattle.json_read.specs.JsonColumnFault.{ColumnFault}
-use Rattle.json_read.specs.JsonBatch.{HoldsColumn}
-use Rattle.json_read.specs.JsonDictionary.{ReadsTexts}
-use Rattle.json_read.specs.JsonDictionaryFault.{TextsFault, no_texts_object, bad_texts_count, bad_texts_list, bad_texts, WrapperFault, no_batch, bad_bare, bad_wrapped, EntryFault}
+use Rattle.json_read.specs.Prelude.{ColumnFault, EntryFault, HoldsColumn, ReadsTexts, TextsFault, WrapperFault, bad_bare, bad_texts, bad_texts_count, bad_texts_list, bad_wrapped, no_batch, no_texts_object, only_item, texts}
 use Rattle.json_base.proofs.JsonTells.{tells_at, tells_as, tells_under}
 
 -- ---- a batch of texts

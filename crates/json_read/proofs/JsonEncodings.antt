@@ -1,15 +1,10 @@
 -- Why a fault of an encoding stands.
 use Rattle.std.proofs.Common.{◌≡◌, ◌∷◌, Some, None}
-use Rattle.json_base.specs.Data.{Data}
-use Rattle.json_base.specs.Find.{as_null, as_object}
+use Rattle.json_base.specs.Prelude.{Data, IsObject, IsUnder, MemberFault, Missing, Tells, Unlike, absent, as_null, as_object, member_of, wrong}
 use Rattle.json_base.specs.declared.path.Member.TheVariants as member
 use Rattle.json_base.specs.declared.path.Step.TheVariants as step
 use Rattle.json_base.specs.declared.fault.JsonFault.{JsonFault}
-use Rattle.json_base.specs.FaultAt.{IsUnder, Tells}
-use Rattle.json_base.specs.JsonMember.{IsObject, member_of, Unlike, Missing, MemberFault, absent, wrong}
-use Rattle.json_read.specs.JsonEncoding.{id_of}
-use Rattle.json_read.specs.JsonEncodingFault.{EncodingFault, bad_id, bad_index, EncodedFault, no_encoding_object, bad_encoding}
-use Rattle.json_read.specs.JsonSchemaFault.{IndexFault}
+use Rattle.json_read.specs.Prelude.{EncodedFault, EncodingFault, IndexFault, bad_encoding, bad_id, bad_index, id_of, no_encoding_object}
 use Rattle.json_base.proofs.JsonTells.{tells_as, tells_under}
 
 pub encoding_id : (d : Data) (f : JsonFault) → Tells (MemberFault member.Id (Unlike id_of) d) f → Tells (EncodingFault d) f

@@ -1,28 +1,19 @@
 -- Why a fault that is reported stands: one lemma for each way in which it came about.
 use Rattle.std.proofs.Common.{◌≡◌, ◌≢◌, ◌∙◌, ℕ, zero, suc, length, get_or, List, [], ◌∷◌, Option, Some, None, option_and_then, false, codes, refl, sym, ap, subst, arith}
-use Rattle.arrays.specs.DataType.{DataType}
-use Rattle.arrays.specs.OffsetWidth.{OffsetWidth}
+use Rattle.arrays.specs.Prelude.{DataType, OffsetWidth, Shape, shape_of}
 use Rattle.arrays.specs.Shape as shape
-use Rattle.arrays.specs.Shape.{Shape, shape_of}
-use Rattle.json_base.specs.Data.{Data, Num}
-use Rattle.json_base.specs.Find.{as_array, as_bool, as_null, as_number, as_object, as_str}
-use Rattle.json_base.specs.View.{view, items_view}
-use Rattle.json_base.specs.Value.{Value}
+use Rattle.json_base.specs.Prelude.{Data, IsFault, IsObject, IsUnder, MemberFault, Missing, Num, Tells, Unlike, Value, absent, as_array, as_bool, as_null, as_number, as_object, as_str, items_view, member_of, unlike, view, width_of, wrong}
 use Rattle.json_base.specs.declared.path.Member.TheVariants as member
 use Rattle.json_base.specs.declared.path.Step.{Step}
 use Rattle.json_base.specs.declared.path.Step.TheVariants as step
 use Rattle.json_base.specs.declared.fault.JsonFault.{JsonFault}
 use Rattle.json_base.specs.declared.fault.JsonFaultKind.{JsonFaultKind}
 use Rattle.json_base.specs.declared.fault.JsonFaultKind.TheVariants.{WrongMember, UnsupportedType}
-use Rattle.json_base.specs.FaultAt.{IsFault, IsUnder, Tells}
-use Rattle.json_base.specs.JsonMember.{member_of, IsObject, Unlike, unlike, Missing, MemberFault, absent, wrong}
-use Rattle.json_base.specs.JsonNumber.{width_of}
 use Rattle.json_base.proofs.JsonTells.{tells_at, tells_as, tells_under, tells_wants}
-use Rattle.json_read.specs.BareField.{IsTypeRead}
-use Rattle.json_read.specs.JsonSchema.{ReadsShape, type_name, texts_name, lists_name, member_type, NamesLists, is_childless, only_item, only_child}
+use Rattle.json_read.specs.Prelude.{FieldFault, IndexFault, IsTypeRead, NamesChildless, NamesLists, ReadsShape, TypeFault, bad_field_name, bad_index_type, bad_nullable, bad_sign, bad_type, bad_type_name, bad_width, bool_name, encoded_item, has_children, int_name, is_childless, lists_name, member_type, ninth_list, no_child, no_dictionary_object, no_field_object, no_type_object, only_child, only_item, other_index, other_type, other_width, texts_called, texts_name, type_name}
 use Rattle.json_read.specs.declared.type_object.NamedType.TheVariants.{Flat}
 use Rattle.json_read.proofs.JsonNames.{by_width}
-use Rattle.json_read.specs.JsonSchemaFault.{NamesChildless, int_name, bool_name, texts_called, TypeFault, no_type_object, bad_type_name, other_type, bad_width, other_width, bad_sign, FieldFault, no_field_object, bad_field_name, bad_nullable, bad_type, no_dictionary_object, encoded_item, has_children, no_child, ninth_list, bad_child, IndexFault, bad_index_type, other_index}
+use Rattle.json_read.specs.JsonSchemaFault.{bad_child}
 
 -- a fault of the first item of an array
 data UnderItem (W : JsonFaultKind → List Step → Type 0) : JsonFaultKind → List Step → Type 0 where

@@ -1,29 +1,15 @@
 -- Why a fault of a schema's fields stands.
 use Rattle.std.proofs.Common.{◌≡◌, ◌≢◌, ◌∙◌, ℕ, ◌+◌, ◌≤◌, nat_lt, List, [], ◌∷◌, ◌++◌, false, Some, option_and_then, codes, string_bytes, sym, ap, subst, arith}
 use Rattle.std.proofs.lemmas.Bool.Decides.{nat_tests}
-use Rattle.arrays.specs.DataType.{DataType, fold_out-DataType, map-DataType}
-use Rattle.arrays.specs.DataTypes.{Dict, outs-Dict}
-use Rattle.arrays.specs.OffsetWidths.{Narrow}
+use Rattle.arrays.specs.Prelude.{DataType, Dict, Field, FieldShape, Narrow, Shape, depth, field_of, field_step, fields_of, fold_out-DataType, fold_out-Field, kind_of_field, map-DataType, out-Field, outs-Dict, shape_of, shape_step}
 use Rattle.std.proofs.lemmas.List.{map-append}
-use Rattle.arrays.specs.Field.{Field, out-Field, fold_out-Field}
-use Rattle.arrays.specs.Kind.{depth}
 use Rattle.arrays.specs.Shape as shape
-use Rattle.arrays.specs.Shape.{Shape, FieldShape, shape_step, field_step, shape_of, field_of, fields_of, kind_of_field}
-use Rattle.json_base.specs.Data.{Data, Items}
-use Rattle.json_base.specs.Find.{as_array, as_bool, as_object, as_str}
+use Rattle.json_base.specs.Prelude.{Data, EachFault, IsFault, IsObject, IsUnder, Items, MemberFault, Missing, Tells, Unlike, as_array, as_bool, as_object, as_str, member_of}
 use Rattle.json_base.specs.declared.path.Member.TheVariants as member
 use Rattle.json_base.specs.declared.path.Step.TheVariants as step
 use Rattle.json_base.specs.declared.fault.JsonFault.{JsonFault}
 use Rattle.json_base.specs.declared.fault.JsonFaultKind.TheVariants.{UnsupportedType, WrongMember}
-use Rattle.json_base.specs.FaultAt.{IsFault, IsUnder, Tells}
-use Rattle.json_base.specs.JsonMember.{IsObject, member_of, Unlike, Missing, MemberFault, EachFault}
-use Rattle.json_read.specs.EncodingParts.{HasSomeEncoding}
-use Rattle.json_read.specs.JsonEncoding.{id_of}
-use Rattle.json_read.specs.JsonEncodingFault.{EncodedFault}
-use Rattle.json_read.specs.JsonFieldsFault.{TopFault, bad_top, bad_encoded, other_values, SchemaFault, no_schema_object, bad_fields, bad_field}
-use Rattle.json_read.specs.JsonSchema.{HasType, IsFieldOf, type_name, member_type, is_childless}
-use Rattle.json_read.specs.JsonFields.{IsEncodedField, ReadsField, plain_field, encoded_field}
-use Rattle.json_read.specs.JsonSchemaFault.{TypeFault, FieldFault, texts_called}
+use Rattle.json_read.specs.Prelude.{EncodedFault, FieldFault, HasSomeEncoding, HasType, IsEncodedField, IsFieldOf, ReadsField, SchemaFault, TopFault, TypeFault, bad_encoded, bad_field, bad_fields, bad_top, encoded_field, id_of, is_childless, member_type, no_schema_object, other_values, plain_field, texts_called, type_name}
 use Rattle.json_base.proofs.JsonTells.{tells_at, tells_as, tells_under, tells_wants, tells_item_at}
 use Rattle.json_read.proofs.JsonFaults.{field_object, field_name_faults, field_nullable_faults, field_no_type, field_type_faults, field_children_named}
 use Rattle.json_base.proofs.MemberLaws.{has_object}

@@ -4,32 +4,14 @@ use Rattle.std.specs.List.{AllByRecursion, slice_get}
 use Rattle.std.proofs.lemmas.List.{map-append}
 use Rattle.std.proofs.lemmas.Option.{slice_get_within}
 use Rattle.arrays.specs.Kind as kind
-use Rattle.arrays.specs.Shape.{FieldShape, kind_of_field}
-use Rattle.arrays.specs.Batch.{Batch}
-use Rattle.arrays.specs.File.{kinds_of}
-use Rattle.json_base.specs.Data.{Data, Items}
-use Rattle.json_base.specs.Find.{as_array, as_object}
-use Rattle.json_base.specs.Read.{read}
-use Rattle.json_base.specs.View.{view, items_view}
-use Rattle.json_base.specs.Value.{Value}
+use Rattle.arrays.specs.Prelude.{Batch, FieldShape, kind_of_field, kinds_of}
+use Rattle.json_base.specs.Prelude.{Data, EachFault, IsUnder, Items, MemberFault, Missing, NoDocument, ReadsEach, ReadsFirst, Tells, Unlike, Value, absent, as_array, as_object, items_view, member_of, no_document, read, table_of, view, wrong}
 use Rattle.json_base.specs.declared.path.Member.TheVariants as member
 use Rattle.json_base.specs.declared.path.Step.{Step}
 use Rattle.json_base.specs.declared.path.Step.TheVariants as step
 use Rattle.json_base.specs.declared.fault.JsonFault.{JsonFault}
 use Rattle.json_base.specs.declared.fault.JsonFaultKind.{JsonFaultKind}
-use Rattle.json_base.specs.FaultAt.{Tells, IsUnder}
-use Rattle.json_base.specs.JsonMember.{NoDocument, no_document, member_of, Unlike, Missing, MemberFault, absent, wrong, EachFault, ReadsFirst, ReadsEach}
-use Rattle.json_read.specs.CatalogParts.{HasEncodings}
-use Rattle.json_read.specs.EncodingParts.{AreEncoded}
-use Rattle.json_read.specs.JsonEncoding.{Encoding}
-use Rattle.json_read.specs.JsonFieldsFault.{SchemaFault}
-use Rattle.json_read.specs.JsonBatch.{IsCatalogOf, ReadsBatch}
-use Rattle.json_base.specs.JsonTable.{table_of}
-use Rattle.json_read.specs.JsonCatalog.{Coding, HasCatalog, HasCoding, listed_fields}
-use Rattle.json_read.specs.JsonCatalogFault.{CatalogFault}
-use Rattle.json_read.specs.JsonFields.{ReadsField, plain_field, encoded_field}
-use Rattle.json_read.specs.JsonBatchFault.{BatchFault}
-use Rattle.json_read.specs.JsonFile.{AreUnder, HasSchema, FileFault, no_file_object, bad_schema, bad_catalog, bad_batches, bad_batch, BytesFault, no_json, bad_file}
+use Rattle.json_read.specs.Prelude.{AreEncoded, AreUnder, BatchFault, BytesFault, CatalogFault, Coding, Encoding, FileFault, HasCatalog, HasCoding, HasEncodings, HasSchema, IsCatalogOf, ReadsBatch, ReadsField, SchemaFault, bad_batch, bad_batches, bad_catalog, bad_file, bad_schema, encoded_field, listed_fields, no_file_object, no_json, plain_field}
 use Rattle.json_base.proofs.JsonTells.{tells_as, tells_under, tells_wants, tells_item_at}
 use Rattle.json_base.proofs.JsonItems.{each_pushed, get_item_some}
 use Rattle.json_read.proofs.SchemaLaws.{not_plain}

@@ -1,37 +1,20 @@
 -- Where a fault stands, nothing is read.
 use Rattle.std.proofs.Common.{◌≡◌, ◌∙◌, ℕ, ◌<◌, ℤ, true, List, length, Option, Some, None, option_and_then, refl, sym, ap, subst, arith}
 use Rattle.std.proofs.lemmas.Option.{slice_get_within}
-use Rattle.arrays.specs.OffsetWidth.{OffsetWidth}
+use Rattle.arrays.specs.Prelude.{FieldShape, Item, Kind, OffsetWidth, kind_of_field, slot_at}
 use Rattle.arrays.specs.Kind as kind
-use Rattle.arrays.specs.Kind.{Kind}
-use Rattle.arrays.specs.Item.{Item}
-use Rattle.arrays.specs.Shape.{FieldShape, kind_of_field}
 use Rattle.json_base.specs.Data as data'
-use Rattle.json_base.specs.Data.{Data, Items, no_items, item}
-use Rattle.json_base.specs.Find.{as_array, as_object}
-use Rattle.json_base.specs.Events.{items_len}
+use Rattle.json_base.specs.Prelude.{Data, EachFault, FileData, Items, ListFault, ReadsEach, Table, Unlike, as_array, as_object, count_of, flag_of, item, items_len, member_of, no_items}
 use Rattle.json_base.specs.declared.path.Member.TheVariants as member
 use Rattle.json_base.specs.declared.path.Step.{Step}
 use Rattle.json_base.specs.declared.fault.JsonFaultKind.{JsonFaultKind}
 use Rattle.json_base.specs.JsonMember as at
-use Rattle.json_base.specs.JsonMember.{member_of, Unlike, ListFault, EachFault, ReadsEach}
-use Rattle.json_base.specs.JsonNumber.{count_of, flag_of}
-use Rattle.json_read.specs.JsonFieldsFault.{SchemaFault}
-use Rattle.json_read.specs.JsonColumn.{numbers, truths, texts, HasFlags, flagged_at}
-use Rattle.arrays.specs.Offsets.{slot_at}
-use Rattle.json_read.specs.JsonList.{SpellsOffset, offset_bytes, are_enough, lists_fault, list_slot, ReadsLists, HasListMembers, IsListColumn}
-use Rattle.json_read.specs.JsonListFault.{OffsetsFault, no_offsets, not_enough, NoLists, no_list_object, bad_list_count, bad_list_flags, bad_offsets, bad_children, NoOffset, no_offset, no_flag_at, ChildFault, no_child_object, bad_child_count, bad_child_column, NotLawful, not_lawful, ListsFault, no_lists, no_flags_of_lists, bad_offset, bad_child, bad_lists}
+use Rattle.json_read.specs.Prelude.{BatchFault, BytesFault, ChildFault, CodedFault, Coding, ColumnsFault, FileFault, HasFlags, HasListMembers, IsListColumn, KindFault, ListsFault, NoLists, NoOffset, NotLawful, OffsetsFault, Reads, ReadsBatch, ReadsColumn, ReadsColumns, ReadsFile, ReadsLists, ReadsTop, SchemaFault, SpellsOffset, are_enough, bad_batch, bad_batches, bad_catalog, bad_child, bad_child_column, bad_child_count, bad_children, bad_column, bad_columns, bad_file, bad_list, bad_list_count, bad_list_flags, bad_lists, bad_offset, bad_offsets, bad_rows, bad_schema, flagged_at, indices, list_slot, lists_fault, no_batch_object, no_child_object, no_file_object, no_flag_at, no_flags_of_lists, no_json, no_list_object, no_lists, no_offset, no_offsets, not_enough, not_lawful, numbers, offset_bytes, texts, truths}
 use Rattle.json_read.proofs.JsonLists.{column_count}
-use Rattle.json_base.specs.JsonTable.{Table, FileData}
-use Rattle.json_read.specs.JsonBatch.{ReadsColumn, ReadsTop, ReadsColumns, ReadsBatch}
 use Rattle.json_read.proofs.JsonFiles.{catalog_of}
-use Rattle.json_read.specs.JsonBatchFault.{KindFault, CodedFault, ColumnsFault, bad_column, BatchFault, no_batch_object, bad_rows, bad_list, bad_columns}
 use Rattle.json_base.proofs.JsonItems.{get_item_some}
-use Rattle.json_read.specs.JsonFile.{ReadsFile, Reads, FileFault, no_file_object, bad_schema, bad_catalog, bad_batches, bad_batch, BytesFault, no_json, bad_file}
 use Rattle.json_read.proofs.ColumnLaws.{count_law, list_law, flags_law, plain_law, same_plain}
 use Rattle.json_read.proofs.CatalogLaws.{codes_law, catalog_law, same_catalog}
-use Rattle.json_read.specs.JsonCatalog.{Coding}
-use Rattle.json_read.specs.JsonCodes.{indices}
 use Rattle.json_base.proofs.MemberLaws.{inner, no_object, not_unlike, no_member, under_law, get_item-within, slice_get_some, each_law, same_lists, same_each}
 use Rattle.json_read.proofs.SchemaLaws.{schema_law, same_schema}
 

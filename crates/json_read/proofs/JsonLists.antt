@@ -5,30 +5,13 @@ use Rattle.std.proofs.lemmas.Grind.{flat_map-append}
 use Rattle.std.proofs.lemmas.List.FromFn.{fill_by_all, get_or-map-range_with_len, length-map-range_with_len}
 use Rattle.std.proofs.lemmas.List.{append-nil}
 use Rattle.std.proofs.lemmas.Option.{slice_get-get_or}
-use Rattle.arrays.specs.LayoutFault.{LayoutFault}
+use Rattle.arrays.specs.Prelude.{IsBufferOf, Item, Kind, LayoutFault, OffsetWidth, Seen, bytes_of_number, first, is_valid_in, is_validity_short, kept, list_of, list_parts, offset_type, own_fault, read_parts, same_kind, show_lists, slot_at}
 use Rattle.arrays.specs.LayoutFaults as layout
-use Rattle.arrays.specs.OffsetWidth.{OffsetWidth}
-use Rattle.arrays.specs.OffsetSize.{offset_type}
-use Rattle.arrays.specs.Fault.{own_fault, is_validity_short}
-use Rattle.arrays.specs.FromParts.{list_parts, show_lists}
 use Rattle.arrays.specs.Item as column
-use Rattle.arrays.specs.Item.{Item, list_of}
 use Rattle.arrays.specs.Kind as kind
-use Rattle.arrays.specs.Kind.{Kind, same_kind}
-use Rattle.arrays.specs.Layout.{is_valid_in}
-use Rattle.arrays.specs.Number.{bytes_of_number}
-use Rattle.arrays.specs.Offsets.{slot_at}
-use Rattle.arrays.specs.Packed.{IsBufferOf}
-use Rattle.arrays.specs.Reading.{read_parts}
-use Rattle.arrays.specs.Seen.{Seen}
-use Rattle.arrays.specs.Shown.{kept}
-use Rattle.arrays.specs.First.{first}
 use Rattle.arrays.proofs.ListArrays.{show_read_lists}
 use Rattle.arrays.proofs.ValidityLemmas.{IsKept, kept_buffer}
-use Rattle.json_base.specs.Data.{Data, Items, no_items, item}
-use Rattle.json_base.specs.Find.{as_array, as_object}
-use Rattle.json_base.specs.View.{view, items_view}
-use Rattle.json_base.specs.Value.{Value}
+use Rattle.json_base.specs.Prelude.{Data, EachFault, IsFault, IsUnder, Items, ListFault, MemberFault, ReadsEach, Tells, Unlike, Value, as_array, as_object, count_of, flag_of, integer_of, item, items_view, member_of, no_items, no_memory, unlike, view}
 use Rattle.json_base.proofs.Views.{items_len-items_view}
 use Rattle.json_base.specs.declared.path.Member.TheVariants as member
 use Rattle.json_base.specs.declared.path.Step.{Step}
@@ -37,17 +20,8 @@ use Rattle.json_base.specs.declared.fault.JsonFault.{JsonFault}
 use Rattle.json_base.specs.declared.fault.JsonFaultKind.{JsonFaultKind}
 use Rattle.json_base.specs.declared.fault.JsonFaultKind.TheVariants.{WrongMember, BadOffset, CountDiffers, Layout}
 use Rattle.json_read.specs.declared.list.ListParts.{ListParts}
-use Rattle.json_base.specs.FaultAt.{Tells, IsFault, IsUnder, no_memory}
 use Rattle.json_base.specs.JsonMember as at
-use Rattle.json_base.specs.JsonMember.{member_of, Unlike, unlike, MemberFault, ListFault, EachFault, ReadsEach}
-use Rattle.json_base.specs.JsonNumber.{integer_of, count_of, flag_of}
-use Rattle.json_read.specs.JsonColumn.{flags_of, flagged_at}
-use Rattle.json_read.specs.JsonColumnFault.{CountFault, FlagsFault}
-use Rattle.json_read.specs.JsonList.{offset_bytes, are_enough, lists_fault, list_slot, ReadsLists, HasListMembers}
-use Rattle.json_read.specs.JsonListFault.{OffsetsFault, no_offsets, not_enough, NoLists, no_list_object, bad_list_count, bad_list_flags, bad_offsets, bad_children, NoOffset, no_offset, NoFlags, no_flag_at, ChildFault, no_child_object, bad_child_count, bad_child_column, NotLawful, not_lawful, ListsFault, no_lists, no_flags_of_lists, bad_offset, bad_child, bad_lists}
-use Rattle.json_read.specs.ListParts.{list_flags, list_offsets, list_child}
-use Rattle.json_read.specs.ListBuffers.{IsFlag, HoldsFlags, HoldsOffsets}
-use Rattle.json_read.specs.JsonBatch.{ReadsColumn, HoldsColumn}
+use Rattle.json_read.specs.Prelude.{ChildFault, CountFault, FlagsFault, HasListMembers, HoldsColumn, HoldsFlags, HoldsOffsets, IsFlag, ListsFault, NoFlags, NoLists, NoOffset, NotLawful, OffsetsFault, ReadsColumn, ReadsLists, are_enough, bad_child, bad_child_column, bad_child_count, bad_children, bad_list_count, bad_list_flags, bad_lists, bad_offset, bad_offsets, flagged_at, flags_of, list_child, list_flags, list_offsets, list_slot, lists_fault, no_child_object, no_flag_at, no_flags_of_lists, no_list_object, no_lists, no_offset, no_offsets, not_enough, not_lawful, offset_bytes}
 use Rattle.json_base.proofs.JsonTells.{tells_at, tells_as, tells_under, tells_wants}
 use Rattle.json_base.proofs.JsonItems.{get_item_some}
 use Rattle.json_read.proofs.JsonColumnFaults.{has_flags, at_index}

@@ -1,9 +1,7 @@
 -- What a member or a name says of an object.
 use Rattle.std.proofs.Common.{◌≡◌, ◌≢◌, ◌∙◌, ℕ, ◌-◌, List, length, get_or, Some, option_and_then, refl, sym, ap, arith}
-use Rattle.arrays.specs.OffsetWidth.{OffsetWidth}
-use Rattle.arrays.specs.OffsetWidths.{Narrow, Wide}
-use Rattle.arrays.specs.Shape.{Shape}
-use Rattle.json_base.specs.Data.{Data}
+use Rattle.arrays.specs.Prelude.{Narrow, OffsetWidth, Shape, Wide}
+use Rattle.json_base.specs.Prelude.{Data}
 use Rattle.json_read.specs.JsonSchema.{type_name, texts_name, lists_name, NamesLists, HasType}
 
 -- what holds at both widths

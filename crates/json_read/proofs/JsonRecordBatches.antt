@@ -5,24 +5,12 @@ use Rattle.std.proofs.lemmas.List.{length-map}
 use Rattle.std.proofs.lemmas.Option.{slice_get-map, slice_get_within}
 use Rattle.std.proofs.lemmas.Bool.Decides.{nat_tests}
 use Rattle.std.proofs.lemmas.Bool.{eq-eqb}
-use Rattle.arrays.specs.Kind.{same_kind}
-use Rattle.arrays.specs.Shape.{FieldShape, fields_of, kind_of_field}
-use Rattle.arrays.specs.Field.{Field}
-use Rattle.arrays.specs.Seen.{Seen}
-use Rattle.arrays.specs.Batch.{Batch, batch_fault, differing_type, differing_length}
+use Rattle.arrays.specs.Prelude.{Batch, Field, FieldShape, Seen, batch_fault, differing_length, differing_type, fields_of, kind_of_field, same_kind}
 use Rattle.arrays.proofs.ListArrays.{same_kind-refl}
-use Rattle.json_base.specs.Data.{Data, Items}
-use Rattle.json_base.specs.Find.{as_array}
-use Rattle.json_base.specs.Events.{items_len}
-use Rattle.json_base.specs.View.{items_view}
-use Rattle.json_base.specs.Value.{Value}
+use Rattle.json_base.specs.Prelude.{Data, Items, Value, as_array, count_of, items_len, items_view, member_of, table_of}
 use Rattle.json_base.proofs.Views.{items_len-items_view}
 use Rattle.json_base.specs.declared.path.Member.TheVariants as member
-use Rattle.json_base.specs.JsonMember.{member_of}
-use Rattle.json_base.specs.JsonNumber.{count_of}
-use Rattle.json_read.specs.JsonBatch.{HoldsTop, HoldsColumns, ReadsTop, ReadsColumns, ReadsBatch}
-use Rattle.json_base.specs.JsonTable.{table_of}
-use Rattle.json_read.specs.JsonCatalog.{Coding}
+use Rattle.json_read.specs.Prelude.{Coding, HoldsColumns, HoldsTop, ReadsBatch, ReadsColumns, ReadsTop}
 use Rattle.json_base.proofs.JsonItems.{get_item_some}
 use Rattle.json_base.proofs.MemberLaws.{slice_get_some}
 use Rattle.json_read.proofs.JsonSchemas.{position-none}

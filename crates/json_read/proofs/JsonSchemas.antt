@@ -3,14 +3,11 @@ use Rattle.std.proofs.Common.{◌≡◌, ◌∙◌, ℕ, suc, ◌+◌, Bool, fal
 use Rattle.std.specs.List.{slice_get, position_or_len}
 use Rattle.std.proofs.lemmas.Bool.Decides.{nat_tests}
 use Rattle.std.proofs.lemmas.Option.{slice_get_within}
-use Rattle.arrays.specs.Kind.{ends_in_dict}
-use Rattle.arrays.specs.Shape.{Shape, FieldShape, int, boolean, texts, lists, dict, field, kind_of_field, kind_of_shape}
-use Rattle.arrays.specs.Schema.{schema_fault, is_deep, holds_dict}
-use Rattle.json_base.specs.Data.{Data, Items}
-use Rattle.json_base.specs.JsonMember.{ReadsEach}
+use Rattle.arrays.specs.Prelude.{FieldShape, Shape, dict, ends_in_dict, field, holds_dict, is_deep, kind_of_field, kind_of_shape, lists, schema_fault, texts}
+use Rattle.arrays.specs.Shape.{int, boolean}
+use Rattle.json_base.specs.Prelude.{Data, Items, ReadsEach}
 use Rattle.json_base.proofs.JsonItems.{get_item_some}
-use Rattle.json_read.specs.JsonSchema.{IsFieldOf, HasChildren}
-use Rattle.json_read.specs.JsonFields.{ReadsField, plain_field, encoded_field}
+use Rattle.json_read.specs.Prelude.{HasChildren, IsFieldOf, ReadsField, encoded_field, plain_field}
 
 -- what is read is no dictionary, nor a list of such
 mutual

@@ -1,14 +1,10 @@
 -- The slots of a column added one after another.
 use Rattle.std.proofs.Common.{◌≡◌, ◌∙◌, ℕ, ◌+◌, ℤ, Bool, List, [], ◌∷◌, ◌++◌, Option, Some, None, true, false, option_map, refl, sym, ap, subst, arith, length-append, below_more}
 use Rattle.std.specs.List.{slice_get}
-use Rattle.arrays.specs.IntType.{IntType}
-use Rattle.arrays.specs.OffsetWidth.{OffsetWidth}
+use Rattle.arrays.specs.Prelude.{IntType, Item, OffsetWidth, text_bytes}
 use Rattle.arrays.specs.OffsetSize as offsets
 use Rattle.arrays.specs.Item as column
-use Rattle.arrays.specs.Item.{Item}
-use Rattle.arrays.specs.Lengths.{text_bytes}
-use Rattle.json_base.specs.Data.{Data, Items}
-use Rattle.json_base.specs.Find.{get_item, as_str}
+use Rattle.json_base.specs.Prelude.{Data, IsFault, Items, Tells, as_str, flag_of, get_item, integer_of}
 use Rattle.arrays.specs.LayoutFaults as layout
 use Rattle.json_base.specs.declared.path.Member.TheVariants as member
 use Rattle.json_base.specs.declared.path.Step.TheVariants as step
@@ -16,11 +12,7 @@ use Rattle.json_base.specs.declared.fault.JsonFault.{JsonFault}
 use Rattle.json_base.specs.declared.fault.JsonFaultKind.TheVariants.{WrongMember, BadNumber, Layout}
 use Rattle.json_read.specs.declared.column.Unfit.{Unfit}
 use Rattle.json_read.specs.declared.column.Unfit.TheVariants as unfit
-use Rattle.json_base.specs.FaultAt.{IsFault, Tells}
-use Rattle.json_base.specs.JsonNumber.{integer_of, flag_of}
-use Rattle.json_read.specs.JsonColumn.{Spelling, numbers, truths, texts, flagged_at, slot_of, ReadsSlots}
-use Rattle.json_read.specs.JsonColumnFault.{SlotsFault, no_flag, no_value, too_long}
-use Rattle.json_read.specs.Unfit.{HasNextItem, IsUnfit, spells_nothing, has_no_room, refused, IsSlotFault}
+use Rattle.json_read.specs.Prelude.{HasNextItem, IsSlotFault, IsUnfit, ReadsSlots, SlotsFault, Spelling, flagged_at, has_no_room, no_flag, no_value, numbers, refused, slot_of, spells_nothing, texts, too_long, truths}
 use Rattle.json_base.proofs.JsonTells.{tells_at, tells_wants}
 use Rattle.json_base.proofs.JsonItems.{slice_get-front, slice_get-last}
 use Rattle.json_read.proofs.JsonColumnFaults.{at_index}

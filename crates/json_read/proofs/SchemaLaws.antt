@@ -1,27 +1,16 @@
 -- Where a fault of a schema stands, no schema is read, and two readings of one schema are one.
 use Rattle.std.proofs.Common.{◌≡◌, ◌≢◌, ◌∙◌, ℕ, suc, ◌+◌, ◌≤◌, Bool, true, false, nat_lt, List, Option, Some, None, option_and_then, codes, refl, ap, subst, arith}
 use Rattle.std.proofs.lemmas.Bool.Decides.{nat_tests}
-use Rattle.arrays.specs.IntType.{IntType}
-use Rattle.arrays.specs.OffsetWidth.{OffsetWidth}
-use Rattle.arrays.specs.OffsetWidths.{Narrow}
-use Rattle.arrays.specs.Kind.{depth}
-use Rattle.arrays.specs.Shape.{Shape, FieldShape, int, boolean, texts, lists, dict, field, kind_of_field}
-use Rattle.json_base.specs.Data.{Data}
-use Rattle.json_base.specs.Find.{as_null, as_bool, as_number, as_str, as_array, as_object}
+use Rattle.arrays.specs.Prelude.{FieldShape, IntType, Narrow, OffsetWidth, Shape, depth, dict, field, kind_of_field, lists, texts}
+use Rattle.arrays.specs.Shape.{int, boolean}
+use Rattle.json_base.specs.Prelude.{Data, EachFault, IsObject, MemberFault, ReadsEach, Unlike, as_array, as_bool, as_null, as_number, as_object, as_str, is_without, member_of, width_of}
 use Rattle.json_base.specs.declared.path.Member.TheVariants as member
 use Rattle.json_base.specs.declared.path.Step.{Step}
 use Rattle.json_base.specs.declared.fault.JsonFaultKind.{JsonFaultKind}
-use Rattle.json_base.specs.JsonMember.{IsObject, member_of, is_without, Unlike, MemberFault, EachFault, ReadsEach}
-use Rattle.json_base.specs.JsonNumber.{width_of}
-use Rattle.json_read.specs.JsonSchema.{type_name, texts_name, lists_name, member_type, NamesLists, is_childless, only_item, only_child, ReadsInt, ReadsShape, HasType, HasField, HasChildren, IsFieldOf}
-use Rattle.json_read.specs.JsonEncoding.{Encoding, HasEncoding, IsEncoding, id_of}
-use Rattle.json_read.specs.JsonEncodingFault.{EncodingFault, bad_id, bad_index, EncodedFault, no_encoding_object, bad_encoding}
-use Rattle.json_read.specs.JsonFields.{IsEncodedField, ReadsField, plain_field, encoded_field, ReadsSchema}
-use Rattle.json_read.specs.JsonFieldsFault.{TopFault, bad_top, bad_encoded, other_values, SchemaFault, no_schema_object, bad_fields, bad_field}
+use Rattle.json_read.specs.Prelude.{EncodedFault, Encoding, EncodingFault, FieldFault, HasChildren, HasEncoding, HasField, HasSchema, HasType, IndexFault, IsEncodedField, IsEncoding, IsFieldOf, NamesChildless, NamesLists, ReadsField, ReadsInt, ReadsSchema, ReadsShape, SchemaFault, TopFault, TypeFault, bad_encoded, bad_encoding, bad_field, bad_field_name, bad_fields, bad_id, bad_index, bad_index_type, bad_nullable, bad_sign, bad_top, bad_type, bad_type_name, bad_width, bool_name, encoded_field, encoded_item, has_children, id_of, int_name, is_childless, lists_name, member_type, ninth_list, no_child, no_dictionary_object, no_encoding_object, no_field_object, no_schema_object, no_type_object, only_child, only_item, other_index, other_type, other_values, other_width, plain_field, texts_called, texts_name, type_name}
 use Rattle.json_base.proofs.MemberLaws.{has_object, no_null, inner, no_object, not_unlike, no_member, under_law, each_law, same_each}
 use Rattle.json_read.proofs.JsonNames.{mark, texts_mark, lists_mark, other_name, same_texts_width, same_lists_width, not_lists}
-use Rattle.json_read.specs.JsonSchemaFault.{NamesChildless, int_name, bool_name, texts_called, TypeFault, no_type_object, bad_type_name, other_type, bad_width, other_width, bad_sign, FieldFault, no_field_object, bad_field_name, bad_nullable, bad_type, no_dictionary_object, encoded_item, has_children, no_child, ninth_list, bad_child, IndexFault, bad_index_type, other_index}
-use Rattle.json_read.specs.JsonFile.{HasSchema}
+use Rattle.json_read.specs.JsonSchemaFault.{bad_child}
 
 -- ---- schemas
 

@@ -1,10 +1,7 @@
 -- What a field's object says without its children, as its reader has it.
 use Rattle.std.specs.Prelude.{◌≡◌, ◌≢◌, string_bytes, true, Some, option_and_then}
-use Rattle.arrays.specs.OffsetWidth.{OffsetWidth}
-use Rattle.arrays.specs.Shape.{shape_of}
-use Rattle.json_base.specs.Data.{Data}
-use Rattle.json_base.specs.Find.{as_bool, as_str}
-use Rattle.json_base.specs.JsonMember.{member_of, is_without}
+use Rattle.arrays.specs.Prelude.{OffsetWidth, shape_of}
+use Rattle.json_base.specs.Prelude.{Data, as_bool, as_str, is_without, member_of}
 use Rattle.json_read.specs.JsonSchema.{type_name, lists_name, member_type, NamesLists, is_childless, ReadsShape, HasType}
 use Rattle.json_base.specs.declared.path.Member.TheVariants as member
 use Rattle.json_read.specs.declared.schema.Bare.{Bare}

@@ -4,14 +4,12 @@ use Rattle.std.specs.Arc.{arc_value}
 use Rattle.std.specs.BTreeMap.{BTreeMap}
 use Rattle.std.specs.declared.alloc.Global.{Global}
 use Rattle.std.specs.declared.sync.Arc.{Arc}
-use Rattle.arrays.specs.Seen.{Seen}
-use Rattle.json_base.specs.Data.{Data, Items, no_items, item}
+use Rattle.arrays.specs.Prelude.{Seen}
+use Rattle.json_base.specs.Prelude.{Data, IsFault, Items, ReadsEach, item, member_of, no_items}
 use Rattle.json_read.specs.JsonDictionary.{ReadsEntry}
 use Rattle.json_read.specs.JsonEncoding.{Encoding, HasEncoding, id_of}
 use Rattle.json_read.specs.JsonCatalog as catalog
 use Rattle.json_read.specs.JsonCatalog.{HasDictionary, HasId, listed_fields}
-use Rattle.json_base.specs.FaultAt.{IsFault}
-use Rattle.json_base.specs.JsonMember.{member_of, ReadsEach}
 use Rattle.json_read.specs.declared.catalog.Coding.{Coding}
 use Rattle.json_read.specs.declared.place.Place.{Place}
 use Rattle.json_read.specs.PlaceParts.{ArePlaces}

@@ -1,12 +1,8 @@
 -- Codes in the making.
 use Rattle.std.specs.Prelude.{◌≡◌, ℕ, List, length, map, true, Option}
 use Rattle.std.specs.List.{All}
-use Rattle.arrays.specs.IntType.{IntType}
-use Rattle.arrays.specs.Column.{Column}
-use Rattle.arrays.specs.Dictionary.{is_code, looked_up}
-use Rattle.arrays.specs.Item.{Item}
-use Rattle.arrays.specs.Kind.{int32}
-use Rattle.json_base.specs.Data.{Items}
+use Rattle.arrays.specs.Prelude.{Column, IntType, Item, int32, is_code, looked_up}
+use Rattle.json_base.specs.Prelude.{Items}
 use Rattle.json_read.specs.JsonColumn.{ReadsSlots}
 use Rattle.json_read.specs.JsonCodes.{indices}
 

@@ -1,8 +1,6 @@
 -- The encoding that a reader has found.
 use Rattle.std.specs.Prelude.{◌≡◌, List, Option, Some, option_and_then}
-use Rattle.json_base.specs.Data.{Data, Items}
-use Rattle.json_base.specs.Find.{as_array}
-use Rattle.json_base.specs.JsonMember.{member_of, ReadsEach}
+use Rattle.json_base.specs.Prelude.{Data, Items, ReadsEach, as_array, member_of}
 use Rattle.json_base.specs.declared.path.Member.TheVariants as member
 use Rattle.json_read.specs.JsonEncoding as column
 use Rattle.json_read.specs.declared.encoding.Encoding.{Encoding}

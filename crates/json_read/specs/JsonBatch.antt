@@ -1,19 +1,12 @@
 -- The batches of a file. (Arrow integration testing, "JSON test data format", RecordBatch)
 use Rattle.std.specs.Prelude.{◌≡◌, ℕ, List, length, slice_get, Option, Some, None, option_and_then}
-use Rattle.arrays.specs.Kind.{Kind, int, boolean, texts, lists, dict}
-use Rattle.arrays.specs.Item.{Item}
-use Rattle.arrays.specs.Shape.{FieldShape, kind_of_field}
-use Rattle.arrays.specs.Seen.{Seen}
-use Rattle.json_base.specs.Data.{Data, Items}
-use Rattle.json_base.specs.Find.{get_item, as_array}
-use Rattle.json_base.specs.Events.{items_len}
-use Rattle.json_base.specs.JsonNumber.{count_of}
-use Rattle.json_base.specs.JsonMember.{member_of}
+use Rattle.arrays.specs.Kind.{int, boolean, texts, lists, dict}
+use Rattle.arrays.specs.Prelude.{FieldShape, Item, Kind, Seen, kind_of_field}
+use Rattle.json_base.specs.Prelude.{Data, Items, Table, as_array, count_of, get_item, items_len, member_of}
 use Rattle.json_read.specs.JsonColumn.{ReadsPlain, numbers, truths, texts as texts_spelled}
 use Rattle.json_read.specs.JsonList.{IsListColumn}
 use Rattle.json_read.specs.JsonCodes.{ReadsCodes}
 use Rattle.json_read.specs.JsonCatalog.{Coding}
-use Rattle.json_base.specs.JsonTable.{Table}
 use Rattle.json_base.specs.declared.path.Member.TheVariants as member
 
 -- The column object of n items of the kind, which isn't encoded.

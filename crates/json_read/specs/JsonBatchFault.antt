@@ -1,11 +1,8 @@
 -- What can be wrong with a batch.
 use Rattle.std.specs.Prelude.{◌≡◌, ℕ, List, [], ◌∷◌, length, slice_get, Option, Some, None, option_and_then}
-use Rattle.arrays.specs.Kind.{Kind, int, boolean, texts, lists, dict}
-use Rattle.arrays.specs.Shape.{FieldShape, kind_of_field}
-use Rattle.json_base.specs.Data.{Data, Items}
-use Rattle.json_base.specs.Find.{get_item, as_array, as_object}
-use Rattle.json_base.specs.JsonNumber.{count_of}
-use Rattle.json_base.specs.JsonMember.{member_of, Unlike, MemberFault, ListFault}
+use Rattle.arrays.specs.Kind.{int, boolean, texts, lists, dict}
+use Rattle.arrays.specs.Prelude.{FieldShape, Kind, kind_of_field}
+use Rattle.json_base.specs.Prelude.{Data, Items, ListFault, MemberFault, Unlike, as_array, as_object, count_of, get_item, member_of}
 use Rattle.json_read.specs.JsonColumn.{numbers, truths, texts as texts_spelled}
 use Rattle.json_read.specs.JsonColumnFault.{ColumnFault}
 use Rattle.json_read.specs.JsonListFault.{ListsFault}

@@ -1,10 +1,7 @@
 -- How the columns of a file's fields are encoded, and by which texts. (Arrow integration testing, "JSON test data format", Schema and DictionaryBatch)
 use Rattle.std.specs.Prelude.{◌≡◌, ℕ, ◌<◌, ℤ, List, length, slice_get, Option, Some, None, option_and_then}
-use Rattle.arrays.specs.IntType.{IntType}
-use Rattle.arrays.specs.Item.{Item}
-use Rattle.json_base.specs.Data.{Data, Items}
-use Rattle.json_base.specs.Find.{get_item, as_array}
-use Rattle.json_base.specs.JsonMember.{member_of, ReadsEach}
+use Rattle.arrays.specs.Prelude.{IntType, Item}
+use Rattle.json_base.specs.Prelude.{Data, Items, ReadsEach, as_array, get_item, member_of}
 use Rattle.json_read.specs.JsonEncoding.{HasEncoding, id_of}
 use Rattle.json_read.specs.JsonDictionary.{ReadsEntry}
 use Rattle.json_base.specs.declared.path.Member.TheVariants as member

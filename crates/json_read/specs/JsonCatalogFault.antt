@@ -1,8 +1,6 @@
 -- What can be wrong with the dictionaries that the fields of a file name.
 use Rattle.std.specs.Prelude.{◌≡◌, ◌≢◌, ℕ, ◌<◌, ℤ, List, [], ◌∷◌, slice_get, Option, Some, option_and_then}
-use Rattle.json_base.specs.Data.{Data, Items}
-use Rattle.json_base.specs.Find.{get_item, as_array, as_object}
-use Rattle.json_base.specs.JsonMember.{member_of, Unlike, MemberFault, EachFault}
+use Rattle.json_base.specs.Prelude.{Data, EachFault, Items, MemberFault, Unlike, as_array, as_object, get_item, member_of}
 use Rattle.json_read.specs.JsonEncoding.{Encoding, HasEncoding, id_of}
 use Rattle.json_read.specs.JsonEncodingFault.{EncodedFault}
 use Rattle.json_read.specs.JsonDictionaryFault.{EntryFault}

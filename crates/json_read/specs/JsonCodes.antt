@@ -1,9 +1,7 @@
 -- Dictionary-encoded columns. (Arrow integration testing, "JSON test data format", FieldData; Arrow columnar format, "Dictionary-encoded layout")
 use Rattle.std.specs.Prelude.{ℕ, ℤ, pos, negsuc, List, slice_get, Option, None, option_and_then}
-use Rattle.arrays.specs.IntType.{IntType}
-use Rattle.arrays.specs.Item.{Item}
-use Rattle.json_base.specs.Data.{Data}
-use Rattle.json_base.specs.JsonNumber.{integer_of}
+use Rattle.arrays.specs.Prelude.{IntType, Item}
+use Rattle.json_base.specs.Prelude.{Data, integer_of}
 use Rattle.json_read.specs.JsonColumn.{Spelling, ReadsPlain}
 use Rattle.json_base.specs.declared.fault.JsonFaultKind.TheVariants.{BadNumber}
 

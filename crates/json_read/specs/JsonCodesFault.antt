@@ -1,11 +1,7 @@
 -- What can be wrong with a dictionary-encoded column.
 use Rattle.std.specs.Prelude.{◌≡◌, ℕ, ℤ, List, [], ◌∷◌, true, Option, Some, None}
-use Rattle.arrays.specs.LayoutFaults.{IndexPastDictionary}
-use Rattle.arrays.specs.IntType.{IntType}
-use Rattle.arrays.specs.Item.{Item}
-use Rattle.json_base.specs.Data.{Data, Items}
-use Rattle.json_base.specs.Find.{get_item}
-use Rattle.json_base.specs.JsonNumber.{integer_of}
+use Rattle.arrays.specs.Prelude.{IndexPastDictionary, IntType, Item}
+use Rattle.json_base.specs.Prelude.{Data, Items, get_item, integer_of}
 use Rattle.json_read.specs.JsonColumn.{flagged_at, ReadsSlots, HasSlots}
 use Rattle.json_read.specs.JsonColumnFault.{NoSlots}
 use Rattle.json_read.specs.JsonCodes.{entry_at, indices}

@@ -1,18 +1,10 @@
 -- The columns of a file. (Arrow integration testing, "JSON test data format", RecordBatch and FieldData)
 use Rattle.std.specs.Prelude.{◌≡◌, ℕ, ◌<◌, List, length, slice_get, Bool, true, false, Option, Some, None, option_map, option_and_then}
-use Rattle.arrays.specs.IntType.{IntType}
-use Rattle.arrays.specs.OffsetWidth.{OffsetWidth}
+use Rattle.arrays.specs.Prelude.{IntType, Item, Kind, OffsetWidth, text_bytes}
 use Rattle.arrays.specs.OffsetSize.{is_full as is_past}
 use Rattle.arrays.specs.Item as column
-use Rattle.arrays.specs.Item.{Item}
 use Rattle.arrays.specs.Kind as kind
-use Rattle.arrays.specs.Kind.{Kind}
-use Rattle.arrays.specs.Lengths.{text_bytes}
-use Rattle.json_base.specs.Data.{Data, null, boolean, number, string, array, object, Items}
-use Rattle.json_base.specs.Find.{get_item, as_array, as_str}
-use Rattle.json_base.specs.Events.{items_len}
-use Rattle.json_base.specs.JsonNumber.{integer_of, count_of, flag_of}
-use Rattle.json_base.specs.JsonMember.{member_of}
+use Rattle.json_base.specs.Prelude.{Data, Items, array, as_array, as_str, boolean, count_of, flag_of, get_item, integer_of, items_len, member_of, null, number, object, string}
 use Rattle.json_base.specs.declared.path.Member.TheVariants as member
 use Rattle.json_base.specs.declared.fault.JsonFaultKind.{JsonFaultKind}
 use Rattle.json_base.specs.declared.fault.JsonFaultKind.TheVariants.{BadNumber, WrongMember, UnsupportedType}

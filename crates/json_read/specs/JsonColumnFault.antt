@@ -1,11 +1,7 @@
 -- What can be wrong with a column.
 use Rattle.std.specs.Prelude.{◌≡◌, ◌≢◌, ℕ, List, [], ◌∷◌, true, Option, Some, None, option_and_then}
-use Rattle.arrays.specs.LayoutFaults.{TooLong}
-use Rattle.arrays.specs.Item.{Item}
-use Rattle.json_base.specs.Data.{Data, Items}
-use Rattle.json_base.specs.Find.{get_item, as_null, as_object}
-use Rattle.json_base.specs.JsonNumber.{count_of}
-use Rattle.json_base.specs.JsonMember.{member_of, Unlike, MemberFault, ListFault}
+use Rattle.arrays.specs.Prelude.{Item, TooLong}
+use Rattle.json_base.specs.Prelude.{Data, Items, ListFault, MemberFault, Unlike, as_null, as_object, count_of, get_item, member_of}
 use Rattle.json_read.specs.JsonColumn.{Spelling, overflows, flagged_at, ReadsSlots, HasSlots}
 use Rattle.json_base.specs.declared.path.Member.TheVariants as member
 use Rattle.json_base.specs.declared.path.Step.{Step}

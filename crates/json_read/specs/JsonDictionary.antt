@@ -1,11 +1,7 @@
 -- The dictionaries of a file. (Arrow integration testing, "JSON test data format", DictionaryBatch)
 use Rattle.std.specs.Prelude.{◌≡◌, ℕ, List, Some, option_and_then}
-use Rattle.arrays.specs.OffsetWidths.{Narrow}
-use Rattle.arrays.specs.Item.{Item}
-use Rattle.json_base.specs.Data.{Data, item, no_items}
-use Rattle.json_base.specs.Find.{as_array}
-use Rattle.json_base.specs.JsonNumber.{count_of}
-use Rattle.json_base.specs.JsonMember.{member_of}
+use Rattle.arrays.specs.Prelude.{Item, Narrow}
+use Rattle.json_base.specs.Prelude.{Data, as_array, count_of, item, member_of, no_items}
 use Rattle.json_read.specs.JsonSchema.{only_item}
 use Rattle.json_read.specs.JsonColumn.{ReadsPlain, texts}
 use Rattle.json_base.specs.declared.path.Member.TheVariants as member

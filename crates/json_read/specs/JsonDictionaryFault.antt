@@ -1,10 +1,7 @@
 -- What can be wrong with a dictionary.
 use Rattle.std.specs.Prelude.{◌≡◌, ℕ, List, [], ◌∷◌, Some, None, option_and_then}
-use Rattle.arrays.specs.OffsetWidths.{Narrow}
-use Rattle.json_base.specs.Data.{Data, item, no_items}
-use Rattle.json_base.specs.Find.{as_array, as_object}
-use Rattle.json_base.specs.JsonNumber.{count_of}
-use Rattle.json_base.specs.JsonMember.{IsObject, member_of, Unlike, MemberFault, ListFault}
+use Rattle.arrays.specs.Prelude.{Narrow}
+use Rattle.json_base.specs.Prelude.{Data, IsObject, ListFault, MemberFault, Unlike, as_array, as_object, count_of, item, member_of, no_items}
 use Rattle.json_read.specs.JsonSchema.{only_item}
 use Rattle.json_read.specs.JsonColumn.{texts}
 use Rattle.json_read.specs.JsonColumnFault.{ColumnFault}

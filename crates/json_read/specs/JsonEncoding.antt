@@ -1,10 +1,7 @@
 -- How the column of a field is encoded. (Arrow integration testing, "JSON test data format", Field and DictionaryType)
 use Rattle.std.specs.Prelude.{◌≡◌, ℤ, true, Option, Some, None, option_and_then}
-use Rattle.arrays.specs.IntType.{IntType}
-use Rattle.json_base.specs.Data.{Data}
-use Rattle.arrays.specs.Kind.{int64}
-use Rattle.json_base.specs.JsonNumber.{integer_of}
-use Rattle.json_base.specs.JsonMember.{member_of, is_without}
+use Rattle.arrays.specs.Prelude.{IntType, int64}
+use Rattle.json_base.specs.Prelude.{Data, integer_of, is_without, member_of}
 use Rattle.json_read.specs.JsonSchema.{ReadsInt}
 use Rattle.json_base.specs.declared.path.Member.TheVariants as member
 

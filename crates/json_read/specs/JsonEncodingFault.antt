@@ -1,8 +1,6 @@
 -- What can be wrong with the encoding of a field.
 use Rattle.std.specs.Prelude.{◌≡◌, List, ◌∷◌, Some, None}
-use Rattle.json_base.specs.Data.{Data}
-use Rattle.json_base.specs.Find.{as_null, as_object}
-use Rattle.json_base.specs.JsonMember.{IsObject, member_of, Unlike, MemberFault}
+use Rattle.json_base.specs.Prelude.{Data, IsObject, MemberFault, Unlike, as_null, as_object, member_of}
 use Rattle.json_read.specs.JsonEncoding.{id_of}
 use Rattle.json_read.specs.JsonSchemaFault.{IndexFault}
 use Rattle.json_base.specs.declared.path.Member.TheVariants as member

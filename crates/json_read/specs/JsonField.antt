@@ -1,8 +1,7 @@
 -- One field by itself. (Arrow integration testing, "JSON test data format", Field; RFC 8259 for the text)
 use Rattle.std.specs.Prelude.{◌≡◌, ℕ, List, [], Some, None, IsUtf8}
-use Rattle.arrays.specs.Shape.{FieldShape}
-use Rattle.json_base.specs.Data.{Data}
-use Rattle.json_base.specs.Read.{read}
+use Rattle.arrays.specs.Prelude.{FieldShape}
+use Rattle.json_base.specs.Prelude.{Data, read}
 use Rattle.json_read.specs.JsonFields.{ReadsField}
 use Rattle.json_read.specs.JsonFieldsFault.{TopFault}
 use Rattle.json_base.specs.declared.path.Step.{Step}

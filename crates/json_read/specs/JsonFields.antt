@@ -1,10 +1,8 @@
 -- The fields of a file's schema. (Arrow integration testing, "JSON test data format", Schema and Field)
 use Rattle.std.specs.Prelude.{◌≡◌, ℕ, List, Bool, true, false, Some, option_and_then}
-use Rattle.arrays.specs.Schema.{is_deep}
-use Rattle.arrays.specs.Shape.{FieldShape, utf8, dict, field}
-use Rattle.json_base.specs.Data.{Data, Items}
-use Rattle.json_base.specs.Find.{as_bool, as_str, as_array}
-use Rattle.json_base.specs.JsonMember.{member_of, ReadsEach}
+use Rattle.arrays.specs.Prelude.{FieldShape, dict, field, is_deep}
+use Rattle.arrays.specs.Shape.{utf8}
+use Rattle.json_base.specs.Prelude.{Data, Items, ReadsEach, as_array, as_bool, as_str, member_of}
 use Rattle.json_read.specs.JsonSchema.{HasType, IsFieldOf, is_childless}
 use Rattle.json_read.specs.JsonEncoding.{Encoding, HasEncoding}
 use Rattle.json_base.specs.declared.path.Member.TheVariants as member

@@ -1,8 +1,6 @@
 -- What can be wrong with the fields of a schema.
 use Rattle.std.specs.Prelude.{◌≡◌, ◌≢◌, ℕ, List, [], ◌∷◌, codes, Some, option_and_then}
-use Rattle.json_base.specs.Data.{Data, Items}
-use Rattle.json_base.specs.Find.{as_array, as_object}
-use Rattle.json_base.specs.JsonMember.{IsObject, member_of, Unlike, MemberFault, EachFault}
+use Rattle.json_base.specs.Prelude.{Data, EachFault, IsObject, Items, MemberFault, Unlike, as_array, as_object, member_of}
 use Rattle.json_read.specs.JsonSchema.{member_type}
 use Rattle.json_read.specs.JsonSchemaFault.{FieldFault}
 use Rattle.json_read.specs.JsonEncodingFault.{EncodedFault}

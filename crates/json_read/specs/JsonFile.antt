@@ -1,18 +1,12 @@
 -- What a file says. (Arrow integration testing, "JSON test data format"; RFC 8259 for the text)
 use Rattle.std.specs.Prelude.{◌≡◌, ℕ, List, [], ◌∷◌, map, Option, Some, None, option_and_then, IsUtf8}
 use Rattle.std.specs.List.{AllByRecursion}
-use Rattle.arrays.specs.Shape.{FieldShape}
-use Rattle.arrays.specs.Batch.{Batch}
-use Rattle.arrays.specs.File.{File}
-use Rattle.json_base.specs.Data.{Data, Items}
-use Rattle.json_base.specs.Find.{as_array, as_object}
-use Rattle.json_base.specs.Read.{read}
-use Rattle.json_base.specs.JsonMember.{member_of, Unlike, MemberFault, EachFault, ReadsEach}
+use Rattle.arrays.specs.Prelude.{Batch, FieldShape, File}
+use Rattle.json_base.specs.Prelude.{Data, EachFault, FileData, Items, MemberFault, ReadsEach, Unlike, as_array, as_object, member_of, read, table_of}
 use Rattle.json_read.specs.JsonFields.{ReadsSchema}
 use Rattle.json_read.specs.JsonFieldsFault.{SchemaFault}
 use Rattle.json_read.specs.JsonCatalog.{Coding, HasCatalog}
 use Rattle.json_read.specs.JsonCatalogFault.{CatalogFault}
-use Rattle.json_base.specs.JsonTable.{FileData, table_of}
 use Rattle.json_read.specs.JsonBatch.{ReadsBatch}
 use Rattle.json_read.specs.JsonBatchFault.{BatchFault}
 use Rattle.json_base.specs.declared.path.Member.TheVariants as member

@@ -1,21 +1,10 @@
 -- Columns of lists. (Arrow integration testing, "JSON test data format", FieldData; Arrow columnar format, "Variable-size list layout")
 use Rattle.std.specs.Prelude.{◌≡◌, ℕ, ◌+◌, ◌<◌, ◌==◌, ◌&&◌, ◌||◌, ℤ, List, [], ◌∷◌, length, slice_get, Bool, true, false, Option, Some, None, option_and_then}
 use Rattle.std.specs.List.{flat_map}
-use Rattle.arrays.specs.OffsetWidth.{OffsetWidth}
-use Rattle.arrays.specs.OffsetSize.{offset_type}
-use Rattle.arrays.specs.LayoutFault.{LayoutFault}
-use Rattle.arrays.specs.Fault.{own_fault}
+use Rattle.arrays.specs.Prelude.{Item, Kind, LayoutFault, OffsetWidth, bytes_of_number, list_of, offset_type, own_fault, slot_at}
 use Rattle.arrays.specs.Item as column
-use Rattle.arrays.specs.Item.{Item, list_of}
 use Rattle.arrays.specs.Kind as kind
-use Rattle.arrays.specs.Kind.{Kind}
-use Rattle.arrays.specs.Number.{bytes_of_number}
-use Rattle.arrays.specs.Offsets.{slot_at}
-use Rattle.json_base.specs.Data.{Data, Items, no_items, item}
-use Rattle.json_base.specs.Find.{as_array}
-use Rattle.json_base.specs.Events.{items_len}
-use Rattle.json_base.specs.JsonNumber.{integer_of, count_of}
-use Rattle.json_base.specs.JsonMember.{member_of, ReadsEach}
+use Rattle.json_base.specs.Prelude.{Data, Items, ReadsEach, as_array, count_of, integer_of, item, items_len, member_of, no_items}
 use Rattle.json_read.specs.JsonColumn.{flags_of, HasFlags, flagged_at}
 use Rattle.json_base.specs.declared.path.Member.TheVariants as member
 

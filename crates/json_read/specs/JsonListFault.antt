@@ -1,14 +1,7 @@
 -- What can be wrong with a column of lists.
 use Rattle.std.specs.Prelude.{◌≡◌, ℕ, ℤ, List, [], ◌∷◌, false, Option, Some, None, option_and_then}
-use Rattle.arrays.specs.OffsetWidth.{OffsetWidth}
-use Rattle.arrays.specs.OffsetSize.{offset_type}
-use Rattle.arrays.specs.LayoutFault.{LayoutFault}
-use Rattle.arrays.specs.Kind.{Kind}
-use Rattle.json_base.specs.Data.{Data, Items}
-use Rattle.json_base.specs.Find.{as_array, as_object}
-use Rattle.json_base.specs.Events.{items_len}
-use Rattle.json_base.specs.JsonNumber.{integer_of, count_of, flag_of}
-use Rattle.json_base.specs.JsonMember.{member_of, Unlike, MemberFault, ListFault, EachFault, ReadsEach}
+use Rattle.arrays.specs.Prelude.{Kind, LayoutFault, OffsetWidth, offset_type}
+use Rattle.json_base.specs.Prelude.{Data, EachFault, Items, ListFault, MemberFault, ReadsEach, Unlike, as_array, as_object, count_of, flag_of, integer_of, items_len, member_of}
 use Rattle.json_read.specs.JsonColumnFault.{CountFault, FlagsFault}
 use Rattle.json_read.specs.JsonList.{SpellsOffset, offset_bytes, are_enough, lists_fault, HasListMembers}
 use Rattle.json_base.specs.declared.path.Member.TheVariants as member

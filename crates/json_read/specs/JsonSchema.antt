@@ -1,14 +1,8 @@
 -- The schema of a file. (Arrow integration testing, "JSON test data format", Schema and Field)
 use Rattle.std.specs.Prelude.{◌≡◌, ℕ, ◌==◌, List, codes, Bool, true, Option, Some, None, is_some, option_map, option_and_then, unwrap_or}
-use Rattle.arrays.specs.IntType.{IntType}
-use Rattle.arrays.specs.OffsetWidth.{OffsetWidth}
-use Rattle.arrays.specs.OffsetWidths.{Narrow, Wide}
-use Rattle.arrays.specs.Shape.{Shape, FieldShape, int, boolean, texts, lists, dict, field}
-use Rattle.json_base.specs.Data.{Data, Items, no_items, item}
-use Rattle.json_base.specs.Find.{as_null, as_bool, as_number, as_str, as_array}
-use Rattle.json_base.specs.Events.{items_len}
-use Rattle.json_base.specs.JsonNumber.{width_of}
-use Rattle.json_base.specs.JsonMember.{member_of, is_without}
+use Rattle.arrays.specs.Prelude.{FieldShape, IntType, Narrow, OffsetWidth, Shape, Wide, dict, field, lists, texts}
+use Rattle.arrays.specs.Shape.{int, boolean}
+use Rattle.json_base.specs.Prelude.{Data, Items, as_array, as_bool, as_null, as_number, as_str, is_without, item, items_len, member_of, no_items, width_of}
 use Rattle.json_base.specs.declared.path.Member.TheVariants as member
 
 -- ---- types

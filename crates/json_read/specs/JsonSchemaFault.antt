@@ -1,10 +1,7 @@
 -- What can be wrong with a schema.
 use Rattle.std.specs.Prelude.{◌≡◌, ◌≢◌, ℕ, suc, List, [], ◌∷◌, codes, false, Some, None, option_and_then}
-use Rattle.arrays.specs.OffsetWidth.{OffsetWidth}
-use Rattle.json_base.specs.Data.{Data, Num}
-use Rattle.json_base.specs.Find.{as_bool, as_null, as_number, as_str, as_object}
-use Rattle.json_base.specs.JsonNumber.{width_of}
-use Rattle.json_base.specs.JsonMember.{IsObject, member_of, Unlike, MemberFault}
+use Rattle.arrays.specs.Prelude.{OffsetWidth}
+use Rattle.json_base.specs.Prelude.{Data, IsObject, MemberFault, Num, Unlike, as_bool, as_null, as_number, as_object, as_str, member_of, width_of}
 use Rattle.json_read.specs.JsonSchema.{type_name, texts_name, lists_name, member_type, NamesLists, is_childless, only_item, only_child}
 use Rattle.json_base.specs.declared.path.Member.TheVariants as member
 use Rattle.json_base.specs.declared.path.Step.{Step}

@@ -1,15 +1,4 @@
 -- The words of this crate's contracts.
-pub use Rattle.json_base.specs.Data
-pub use Rattle.json_base.specs.Events
-pub use Rattle.json_base.specs.FaultAt
-pub use Rattle.json_base.specs.Find
-pub use Rattle.json_base.specs.JsonMember
-pub use Rattle.json_base.specs.JsonNumber
-pub use Rattle.json_base.specs.JsonPath
-pub use Rattle.json_base.specs.JsonTable
-pub use Rattle.json_base.specs.Read
-pub use Rattle.json_base.specs.View
-pub use Rattle.json_base.specs.declared.path.Member
 pub use Rattle.json_base.specs.declared.path.Member.TheVariants as Members
 pub mod JsonSchema
 pub mod JsonSchemaFault
@@ -40,3 +29,4 @@ pub mod Unfit
 pub mod JsonBatch
 pub mod JsonBatchFault
 pub mod JsonFile
+pub mod Prelude

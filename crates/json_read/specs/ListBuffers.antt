@@ -1,13 +1,9 @@
 -- The validity and the offsets of lists in memory.
 use Rattle.std.specs.Prelude.{◌≡◌, ℕ, ◌<◌, ℤ, List, false, Bool, Option, Some}
-use Rattle.arrays.specs.OffsetWidth.{OffsetWidth}
-use Rattle.arrays.specs.Fault.{is_validity_short}
-use Rattle.arrays.specs.Layout.{is_valid_in}
-use Rattle.json_base.specs.Data.{Data, Items}
+use Rattle.arrays.specs.Prelude.{OffsetWidth, is_valid_in, is_validity_short}
+use Rattle.json_base.specs.Prelude.{Data, Items, ReadsEach, flag_of}
 use Rattle.json_read.specs.JsonColumn.{flagged_at}
 use Rattle.json_read.specs.JsonList.{SpellsOffset, offset_bytes}
-use Rattle.json_base.specs.JsonMember.{ReadsEach}
-use Rattle.json_base.specs.JsonNumber.{flag_of}
 
 -- The value is a flag.
 abbrev pub IsFlag : Data → Bool → Type 0

@@ -1,7 +1,6 @@
 -- The flags, the offsets and the child that a reader has found.
 use Rattle.std.specs.Prelude.{Option, option_map}
-use Rattle.json_base.specs.Data.{Data, Items}
-use Rattle.json_base.specs.View.{view, items_view}
+use Rattle.json_base.specs.Prelude.{Data, Items, items_view, view}
 use Rattle.json_read.specs.declared.list.ListParts.{ListParts}
 
 -- Where there are none, all lists are valid.

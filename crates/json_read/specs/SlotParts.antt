@@ -1,7 +1,6 @@
 -- The flags and values that a reader has found.
 use Rattle.std.specs.Prelude.{Option, option_map}
-use Rattle.json_base.specs.Data.{Items}
-use Rattle.json_base.specs.View.{items_view}
+use Rattle.json_base.specs.Prelude.{Items, items_view}
 use Rattle.json_read.specs.declared.column.Slots.{Slots}
 
 -- Where there are none, all slots are valid.

@@ -1,10 +1,9 @@
 -- Why a value isn't taken into a column that has some items, and how that is reported.
 use Rattle.std.specs.Prelude.{◌≡◌, ℕ, List, [], ◌∷◌, ◌++◌, true, false, Some, None}
 use Rattle.arrays.specs.LayoutFaults as layout
-use Rattle.arrays.specs.Item.{Item}
-use Rattle.json_base.specs.Data.{Data}
+use Rattle.arrays.specs.Prelude.{Item}
+use Rattle.json_base.specs.Prelude.{Data, IsFault, no_memory}
 use Rattle.json_read.specs.JsonColumn.{Spelling, overflows}
-use Rattle.json_base.specs.FaultAt.{IsFault, no_memory}
 use Rattle.json_base.specs.declared.path.Member.TheVariants as member
 use Rattle.json_base.specs.declared.path.Step.TheVariants as step
 use Rattle.json_base.specs.declared.fault.JsonFault.{JsonFault}

@@ -1,15 +1,11 @@
 ghost use Rattle.std.specs.Prelude.{◌≡◌, ◌<◌, ◌^◌, length, map, option_map, IfOk, IfErr, IfSome};
 ghost use Rattle.std.specs.Arc.{arc_value};
 ghost use Rattle.arrays.specs.Kind as kind;
-ghost use Rattle.arrays.specs.Kind.{kind_of};
-ghost use Rattle.arrays.specs.Shape.{fields_of};
-ghost use Rattle.arrays.specs.Field.{out-Field};
-ghost use Rattle.json_base.specs.View.{view, items_view};
+ghost use Rattle.arrays.specs.Prelude.{fields_of, kind_of, out-Field};
+ghost use Rattle.json_base.specs.Prelude.{Tells, items_view, table_of, view};
 ghost use Rattle.json_read.specs.CatalogParts.{coding_of};
 ghost use Rattle.json_read.specs.JsonBatch.{HoldsColumn, HoldsColumns, HoldsTop, IsCatalogOf, ReadsBatch};
-ghost use Rattle.json_base.specs.JsonTable.{table_of};
 ghost use Rattle.json_read.specs.JsonBatchFault.{BatchFault, CodedFault, ColumnsFault, KindFault};
-ghost use Rattle.json_base.specs.FaultAt.{Tells};
 
 use crate::catalog::Coding;
 use crate::codes::read_codes;

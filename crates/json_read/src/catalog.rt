@@ -3,15 +3,13 @@
 ghost use Rattle.std.specs.Prelude.{◌≡◌, ◌<◌, length, Some, IfOk, IfErr, OnErr, map, option_map};
 ghost use Rattle.std.specs.Bool.{OnFalse, OnTrue};
 ghost use Rattle.std.specs.Arc.{arc_value};
-ghost use Rattle.json_base.specs.View.{view, items_view};
+ghost use Rattle.json_base.specs.Prelude.{EachFault, IsObject, ReadsEach, Tells, items_view, no_memory, view};
 ghost use Rattle.json_read.specs.CatalogParts.{AreCodings, AreNumbered, HasEncodings, HasSome, IsCodingAt, AreWordsOf, IsNoDictionary, coding_of, ids_of};
 ghost use Rattle.json_read.specs.EncodingParts.{parts_of};
 ghost use Rattle.json_read.specs.JsonCatalog.{HasCatalog, HasDictionary, HasEntries, HasId};
 ghost use Rattle.json_read.specs.JsonCatalogFault.{CatalogFault, CodingsFault, EntriesFault, NamedFault, NoId};
 ghost use Rattle.json_read.specs.JsonDictionary.{ReadsEntry};
 ghost use Rattle.json_read.specs.JsonDictionaryFault.{EntryFault};
-ghost use Rattle.json_base.specs.FaultAt.{Tells, no_memory};
-ghost use Rattle.json_base.specs.JsonMember.{EachFault, IsObject, ReadsEach};
 
 use crate::dictionary::read_entry;
 use crate::encoding::{Encoding, id_member};

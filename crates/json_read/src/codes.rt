@@ -2,15 +2,13 @@
 
 ghost use Rattle.std.specs.Prelude.{◌≡◌, ◌+◌, ◌<◌, ◌^◌, length, true, Some, IfOk, IfErr, IfSome, OnOk};
 ghost use Rattle.std.specs.Arc.{arc_value};
-ghost use Rattle.arrays.specs.Dictionary.{is_code};
-ghost use Rattle.arrays.specs.Item.{int};
+ghost use Rattle.arrays.specs.Prelude.{int, is_code};
 ghost use Rattle.arrays.specs.Kind as kind;
-ghost use Rattle.json_base.specs.View.{view};
+ghost use Rattle.json_base.specs.Prelude.{Tells, view};
 ghost use Rattle.json_read.specs.CodeParts.{HoldsCodes};
 ghost use Rattle.json_read.specs.JsonCodes.{ReadsCodes};
 ghost use Rattle.json_read.specs.JsonCodesFault.{CodesFault, IndicesFault};
 ghost use Rattle.json_read.specs.JsonColumn.{flagged_at};
-ghost use Rattle.json_base.specs.FaultAt.{Tells};
 ghost use Rattle.json_read.specs.SlotParts.{flags_in, values_in};
 
 use crate::column::{Slots, read_slots};

@@ -1,15 +1,10 @@
 ghost use Rattle.std.specs.Prelude.{◌≡◌, ◌+◌, ◌<◌, ◌^◌, ◌∷◌, ◌++◌, [], length, false, Option, Some, None, IfOk, IfErr, IfSome, OnOk, option_map, option_and_then};
-ghost use Rattle.arrays.specs.Item.{null};
+ghost use Rattle.arrays.specs.Prelude.{null};
 ghost use Rattle.arrays.specs.Kind as kind;
-ghost use Rattle.json_base.specs.Data.{item, no_items};
-ghost use Rattle.json_base.specs.Find.{as_array};
-ghost use Rattle.json_base.specs.View.{view, items_view};
+ghost use Rattle.json_base.specs.Prelude.{IsObject, ListFault, MemberFault, Tells, as_array, count_of, item, items_view, member_of, no_items, view};
 ghost use Rattle.json_read.specs.JsonBatch.{HoldsColumn};
 ghost use Rattle.json_read.specs.JsonColumn.{flags_of, flagged_at, numbers, truths, texts, spelling_of, overflows, ReadsSlots, HasSlots};
 ghost use Rattle.json_read.specs.JsonColumnFault.{CountFault, FlagsFault, NoSlots, SlotsFault, ColumnFault};
-ghost use Rattle.json_base.specs.FaultAt.{Tells};
-ghost use Rattle.json_base.specs.JsonMember.{member_of, IsObject, ListFault, MemberFault};
-ghost use Rattle.json_base.specs.JsonNumber.{count_of};
 ghost use Rattle.json_read.specs.SlotParts.{flags_in, values_in};
 ghost use Rattle.json_read.specs.Unfit.{HasNextItem, IsUnfit, IsSlotFault};
 ghost use Rattle.json_base.specs.declared.path.Member.TheVariants as member;
@@ -177,8 +172,7 @@ enum Unfit {
 /// A column in the making, of which each slot has a value of its own.
 trait ColumnBuilder: Drop {
     ghost use Rattle.std.specs.Prelude.{List};
-    ghost use Rattle.arrays.specs.Item.{Item};
-    ghost use Rattle.arrays.specs.Kind.{Kind};
+    ghost use Rattle.arrays.specs.Prelude.{Item, Kind};
 
     ghost kind: { Self → Kind };
 

@@ -2,11 +2,9 @@
 
 ghost use Rattle.std.specs.Prelude.{◌≡◌, IfOk, IfErr};
 ghost use Rattle.arrays.specs.Kind as kind;
-ghost use Rattle.json_base.specs.View.{view};
+ghost use Rattle.json_base.specs.Prelude.{IsObject, Tells, view};
 ghost use Rattle.json_read.specs.JsonDictionary.{WrapsTexts, ReadsEntry, ReadsTexts};
 ghost use Rattle.json_read.specs.JsonDictionaryFault.{EntryFault, WrapperFault, TextsFault};
-ghost use Rattle.json_base.specs.FaultAt.{Tells};
-ghost use Rattle.json_base.specs.JsonMember.{IsObject};
 
 use crate::column::{read_texts, single_member};
 use crate::schema::only_item;

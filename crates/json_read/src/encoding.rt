@@ -1,12 +1,10 @@
 //! How the column of a field is encoded, if it is by a dictionary.
 
 ghost use Rattle.std.specs.Prelude.{◌≡◌, true, Some, IfOk, IfErr, IfNone, IfSome, option_and_then, option_map};
-ghost use Rattle.json_base.specs.View.{view};
+ghost use Rattle.json_base.specs.Prelude.{IsObject, MemberFault, Tells, Unlike, is_without, member_of, view};
 ghost use Rattle.json_read.specs.EncodingParts.{parts_of};
 ghost use Rattle.json_read.specs.JsonEncoding.{HasEncoding, IsEncoding, id_of};
 ghost use Rattle.json_read.specs.JsonEncodingFault.{EncodedFault, EncodingFault};
-ghost use Rattle.json_base.specs.FaultAt.{Tells};
-ghost use Rattle.json_base.specs.JsonMember.{IsObject, MemberFault, Unlike, is_without, member_of};
 ghost use Rattle.json_base.specs.declared.path.Member.TheVariants as member;
 
 use crate::type_object::read_index;

@@ -1,7 +1,7 @@
 //! One field by itself.
 
 ghost use Rattle.std.specs.Prelude.{IfErr, IfOk};
-ghost use Rattle.arrays.specs.Shape.{field_of};
+ghost use Rattle.arrays.specs.Prelude.{field_of};
 ghost use Rattle.json_read.specs.JsonField.{FieldTextFault, IsFieldText};
 ghost use Rattle.json_base.specs.FaultAt.{Tells};
 

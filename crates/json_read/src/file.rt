@@ -1,15 +1,11 @@
 ghost use Rattle.std.specs.Prelude.{◌≡◌, Some, IfOk, IfErr, OnOk, IsUtf8, map, option_map};
 ghost use Rattle.std.specs.Arc.{arc_value};
-ghost use Rattle.json_base.specs.Read.{read};
-ghost use Rattle.json_base.specs.View.{view, items_view};
+ghost use Rattle.json_base.specs.Prelude.{EachFault, IsObject, NoDocument, ReadsEach, Tells, items_view, read, table_of, view};
 ghost use Rattle.json_read.specs.CatalogParts.{HasEncodings, coding_of};
 ghost use Rattle.json_read.specs.EncodingParts.{parts_of};
 ghost use Rattle.json_read.specs.JsonCatalog.{HasCatalog};
 ghost use Rattle.json_read.specs.JsonBatch.{IsCatalogOf, ReadsBatch};
-ghost use Rattle.json_base.specs.JsonTable.{table_of};
 ghost use Rattle.json_read.specs.JsonBatchFault.{BatchFault};
-ghost use Rattle.json_base.specs.FaultAt.{Tells};
-ghost use Rattle.json_base.specs.JsonMember.{EachFault, NoDocument, IsObject, ReadsEach};
 ghost use Rattle.json_read.specs.JsonFile.{AreUnder, BytesFault, FileFault, HasSchema, Reads, ReadsFile, file_of};
 
 use crate::batch::read_batch;

@@ -1,6 +1,6 @@
 //! What holds of files and fields whatever program reads them.
 ghost use Rattle.std.specs.Prelude.{◌≡◌, ℕ, List};
-ghost use Rattle.arrays.specs.Shape.{FieldShape};
+ghost use Rattle.arrays.specs.Prelude.{FieldShape};
 ghost use Rattle.json_read.specs.JsonField.{FieldTextFault, IsFieldText};
 ghost use Rattle.json_read.specs.JsonFile.{BytesFault, Reads};
 ghost use Rattle.json_base.specs.JsonTable.{FileData};

@@ -1,22 +1,13 @@
 //! Columns of lists.
 
 ghost use Rattle.std.specs.Prelude.{◌≡◌, ◌<◌, ◌^◌, ◌++◌, [], false, true, length, IfOk, IfErr, IfSome, OnErr, OnOk, Some, option_and_then};
-ghost use Rattle.arrays.specs.Fault.{is_validity_short};
-ghost use Rattle.arrays.specs.FromParts.{list_parts};
+ghost use Rattle.arrays.specs.Prelude.{IsOfType, bytes_of_number, is_validity_short, kind_of, list_parts, offset_type, out-Field, same_kind};
 ghost use Rattle.arrays.specs.Kind as kind;
-ghost use Rattle.arrays.specs.Kind.{kind_of, same_kind};
-ghost use Rattle.arrays.specs.Number.{IsOfType, bytes_of_number};
-ghost use Rattle.arrays.specs.OffsetSize.{offset_type};
-ghost use Rattle.arrays.specs.Field.{out-Field};
-ghost use Rattle.json_base.specs.Find.{as_array};
-ghost use Rattle.json_base.specs.View.{view, items_view};
+ghost use Rattle.json_base.specs.Prelude.{EachFault, IsFault, IsObject, ReadsEach, Tells, Unlike, as_array, flag_of, items_view, member_of, no_memory, view};
 ghost use Rattle.json_read.specs.JsonBatch.{HoldsColumn};
 ghost use Rattle.json_read.specs.JsonBatchFault.{KindFault};
-ghost use Rattle.json_base.specs.FaultAt.{Tells, IsFault, no_memory};
 ghost use Rattle.json_read.specs.JsonList.{HasListMembers, are_enough, lists_fault};
 ghost use Rattle.json_read.specs.JsonListFault.{ChildFault, ListsFault, NoFlags, NoLists, NoOffset, NotLawful, OffsetsFault};
-ghost use Rattle.json_base.specs.JsonMember.{EachFault, IsObject, ReadsEach, Unlike, member_of};
-ghost use Rattle.json_base.specs.JsonNumber.{flag_of};
 ghost use Rattle.json_read.specs.ListParts.{list_child, list_flags, list_offsets};
 ghost use Rattle.json_read.specs.ListBuffers.{HoldsFlags, HoldsOffsets, IsFlag};
 ghost use Rattle.json_base.specs.declared.fault.JsonFaultKind.TheVariants.{Layout};

@@ -1,14 +1,9 @@
 ghost use Rattle.std.specs.Prelude.{◌≡◌, ◌+◌, ◌<◌, ◌≤◌, true, IfOk, IfErr, OnOk, None, Some, map, option_map, option_and_then};
 ghost use Rattle.std.specs.Arc.{arc_value};
-ghost use Rattle.json_base.specs.Find.{as_array};
-ghost use Rattle.json_base.specs.View.{view, items_view};
-ghost use Rattle.arrays.specs.Kind.{depth};
-ghost use Rattle.arrays.specs.Schema.{schema_fault};
+ghost use Rattle.json_base.specs.Prelude.{EachFault, IsObject, ReadsEach, Tells, as_array, is_without, items_view, member_of, no_memory, view};
+ghost use Rattle.arrays.specs.Prelude.{depth, field_of, fields_of, kind_of_field, schema_fault, shape_of};
 ghost use Rattle.arrays.specs.Shape as shape;
-ghost use Rattle.arrays.specs.Shape.{field_of, fields_of, kind_of_field, shape_of};
-ghost use Rattle.json_base.specs.FaultAt.{Tells, no_memory};
 ghost use Rattle.json_read.specs.BareField.{IsFieldType, IsBare};
-ghost use Rattle.json_base.specs.JsonMember.{member_of, is_without, EachFault, IsObject, ReadsEach};
 ghost use Rattle.json_read.specs.JsonSchema.{HasType, NamesLists, only_item, only_child, IsFieldOf, is_childless};
 ghost use Rattle.json_read.specs.JsonSchemaFault.{FieldFault};
 ghost use Rattle.json_read.specs.EncodingParts.{AreEncoded, HasSomeEncoding, parts_of};

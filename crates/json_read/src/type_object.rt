@@ -1,10 +1,8 @@
 //! The objects of types.
 
 ghost use Rattle.std.specs.Prelude.{◌≡◌, IfOk, IfErr, OnOk, Some, codes};
-ghost use Rattle.json_base.specs.View.{view};
+ghost use Rattle.json_base.specs.Prelude.{IsObject, Tells, view};
 ghost use Rattle.json_read.specs.BareField.{IsTypeRead};
-ghost use Rattle.json_base.specs.FaultAt.{Tells};
-ghost use Rattle.json_base.specs.JsonMember.{IsObject};
 ghost use Rattle.json_read.specs.JsonSchema.{type_name, ReadsInt};
 ghost use Rattle.json_read.specs.JsonSchemaFault.{TypeFault, IndexFault};
 

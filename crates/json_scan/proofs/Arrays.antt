@@ -9,8 +9,7 @@ use Rattle.std.proofs.lemmas.List.{map-append}
 use Rattle.serde_json.specs.Data.{Num, Data, number, array, Items, no_items, item}
 use Rattle.serde_json.specs.Find.{as_integer}
 use Rattle.serde_json.specs.Read.{of_json, of_items, converted}
-use Rattle.json_scan.specs.Scalars.{number_integer, AreIntegers}
-use Rattle.json_scan.specs.Spelling.{tokens_in, SpellsAt, SpellsItems, IsMark, before}
+use Rattle.json_scan.specs.Prelude.{AreIntegers, IsMark, SpellsAt, SpellsItems, before, number_integer, tokens_in}
 use Rattle.json_scan.specs.declared.mark.Container.TheVariants.{Array}
 use Rattle.json_scan.specs.declared.mark.Mark.TheVariants.{Comma, End}
 use Rattle.json_scan.proofs.Lexemes.{operator_lexed}

@@ -19,8 +19,7 @@ use Rattle.serde_json.specs.Data.{Num, unsigned, negative, float}
 use Rattle.serde_json.specs.Data as data_of
 use Rattle.serde_json.specs.Find.{as_integer, of_integer}
 use Rattle.serde_json.specs.Read.{number_of, number_from, max_depth, read}
-use Rattle.json_scan.specs.Scalars.{begins_number}
-use Rattle.json_scan.specs.Spelling.{Spells}
+use Rattle.json_scan.specs.Prelude.{Spells, begins_number}
 use Rattle.json_scan.proofs.Lexemes.{word_ended, slice_more}
 use Rattle.json_scan.proofs.Values.{token_spells, whole_document}
 

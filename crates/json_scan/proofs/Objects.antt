@@ -9,8 +9,7 @@ use Rattle.serde_json.specs.Data.{Data, object, Members, no_members, put}
 use Rattle.serde_json.specs.Find.{get_member}
 use Rattle.serde_json.proofs.Views.{get_member-put, get_member-put_other}
 use Rattle.serde_json.specs.Read.{of_json, of_members, converted}
-use Rattle.json_scan.specs.Member.{IsMemberAt}
-use Rattle.json_scan.specs.Spelling.{tokens_in, SpellsAt, SpellsMembers, IsMark, IsKey}
+use Rattle.json_scan.specs.Prelude.{IsKey, IsMark, IsMemberAt, SpellsAt, SpellsMembers, tokens_in}
 use Rattle.json_scan.specs.declared.mark.Container.TheVariants.{Object}
 use Rattle.json_scan.specs.declared.mark.Mark.TheVariants.{Comma, End}
 use Rattle.json_scan.proofs.Lexemes.{operator_lexed}

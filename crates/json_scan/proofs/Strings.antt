@@ -9,8 +9,7 @@ use Rattle.json.specs.Lex as lexer
 use Rattle.json.specs.Token.{string}
 use Rattle.json.specs.Text.{content, plain, after_backslash, after_u, after_high, prepend, code_unit, short_escape, is_high_surrogate, is_low_surrogate, surrogate_pair}
 use Rattle.serde_json.specs.Data as data_of
-use Rattle.json_scan.specs.Scalars.{IsTextBody}
-use Rattle.json_scan.specs.Spelling.{Spells, IsString, IsKey}
+use Rattle.json_scan.specs.Prelude.{IsKey, IsString, IsTextBody, Spells}
 use Rattle.json_scan.proofs.Lexemes.{from_byte, operator_lexed, byte_stands, slice_more}
 use Rattle.json_scan.proofs.Values.{token_spells}
 

@@ -2,16 +2,10 @@
 use Rattle.std.proofs.Common.{◌≡◌, ◌∙◌, ℕ, ◌<◌, List, [], ◌∷◌, ◌++◌, length, get_or, map, Option, Some, option_map, refl, sym, ap, subst, arith, length-append, below_more}
 use Rattle.std.specs.List.{slice_get}
 use Rattle.std.proofs.lemmas.Option.{slice_get_within}
-use Rattle.arrays.specs.Field.{Field, out-Field}
+use Rattle.arrays.specs.Prelude.{Field, FieldShape, Seen, field_of, fields_of, kind_of, kind_of_field, out-Field}
 use Rattle.arrays.proofs.ShapeLemmas.{kind_of_field-field_of}
-use Rattle.arrays.specs.Kind.{kind_of}
-use Rattle.arrays.specs.Seen.{Seen}
-use Rattle.arrays.specs.Shape.{FieldShape, field_of, fields_of, kind_of_field}
-use Rattle.json_read.specs.Data.{Data}
+use Rattle.json_read.specs.Prelude.{Coding, Data, HoldsTop, coding_of}
 use Rattle.json_read.proofs.JsonItems.{slice_get-front, slice_get-last}
-use Rattle.json_read.specs.CatalogParts.{coding_of}
-use Rattle.json_read.specs.JsonBatch.{HoldsTop}
-use Rattle.json_read.specs.JsonCatalog.{Coding}
 use Rattle.json_read.specs.declared.catalog.Coding as reader
 use Rattle.json_read.proofs.JsonBatches.{field_at, coding_at}
 use Rattle.json_stream.specs.Columns.{AreReadColumns}

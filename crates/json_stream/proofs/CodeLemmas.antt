@@ -3,15 +3,8 @@ use Rattle.std.proofs.Common.{◌≡◌, ◌∙◌, ℕ, ℤ, List, [], ◌∷�
 use Rattle.std.specs.List.{All}
 use Rattle.std.proofs.lemmas.List.{map-append}
 use Rattle.std.proofs.lemmas.List.Elements.{All-push}
-use Rattle.arrays.specs.IntType.{IntType}
-use Rattle.arrays.specs.Dictionary.{is_code, looked_up}
-use Rattle.arrays.specs.Item.{Item, int}
-use Rattle.arrays.specs.Kind.{int32}
-use Rattle.arrays.specs.Number.{is_of_type}
-use Rattle.json_read.specs.Data.{Data, item, no_items}
-use Rattle.json_read.specs.JsonNumber.{whole_of, fitting, integer_of}
-use Rattle.json_read.specs.JsonCodes.{indices}
-use Rattle.json_read.specs.Unfit.{HasNextItem}
+use Rattle.arrays.specs.Prelude.{IntType, Item, int, int32, is_code, is_of_type, looked_up}
+use Rattle.json_read.specs.Prelude.{Data, HasNextItem, fitting, indices, integer_of, item, no_items, whole_of}
 use Rattle.json_read.proofs.JsonCodes.{index_added, no_codes_yet}
 
 pub integer_fits : (t : IntType) (d : Data) (z : ℤ) → whole_of d ≡ Some z → is_of_type t z ≡ true → integer_of t d ≡ Some z

@@ -2,25 +2,14 @@
 use Rattle.std.proofs.Common.{◌≡◌, ◌≢◌, ◌∙◌, ℕ, ◌^◌, ◌<◌, nat_lt, cond, List, length, get_or, Bool, true, Option, Some, None, option_and_then, drop, refl, sym, ap, subst, arith}
 use Rattle.std.specs.Prelude.{IfSome}
 use Rattle.std.proofs.lemmas.Bool.Decides.{nat_tests}
-use Rattle.arrays.specs.Item.{Item}
-use Rattle.arrays.specs.Kind.{Kind, int, boolean, texts, lists, dict}
-use Rattle.arrays.specs.Seen.{Seen}
-use Rattle.json_read.specs.Data.{Num, Data, number, object, array, Items, no_items, Members, put}
-use Rattle.json_read.specs.Find.{get_member, as_array, as_u64}
+use Rattle.arrays.specs.Prelude.{Item, Kind, Seen}
+use Rattle.arrays.specs.Kind.{int, boolean, texts, lists, dict}
+use Rattle.json_read.specs.Prelude.{Coding, Data, HasFlags, HasSlots, HoldsColumn, HoldsTop, Items, Member, Members, Num, ReadsColumn, ReadsPlain, ReadsSlots, ReadsTop, array, as_array, as_u64, below, count_of, flagged_at, flags_of, get_member, member_name, no_items, number, object, put, spelling_of}
 use Rattle.json_read.proofs.Views.{get_member-put, get_member-put_other}
-use Rattle.json_read.specs.JsonNumber.{below, count_of}
-use Rattle.json_read.specs.JsonPath.{member_name}
-use Rattle.json_read.specs.Member.{Member}
 use Rattle.json_read.specs.Members as member
-use Rattle.json_read.specs.JsonBatch.{ReadsColumn, HoldsColumn, ReadsTop, HoldsTop}
-use Rattle.json_read.specs.JsonCatalog.{Coding}
-use Rattle.json_read.specs.JsonColumn.{spelling_of, flags_of, HasFlags, flagged_at, ReadsSlots, HasSlots, ReadsPlain}
 use Rattle.json_scan.specs.Spelling.{SpellsAt, before}
 use Rattle.json_scan.proofs.Values.{same_value}
-use Rattle.json_stream.specs.Validity.{IsValidity, valid_of}
-use Rattle.json_stream.specs.Field.{kind_in, coding_in}
-use Rattle.json_stream.specs.Slots.{spelling_at, is_slotwise, is_slotted, HoldsSlots}
-use Rattle.json_stream.specs.Column.{IsCountMember, StandsOn, IsValues, HoldsParts}
+use Rattle.json_stream.specs.Prelude.{HoldsParts, HoldsSlots, IsCountMember, IsValidity, IsValues, StandsOn, coding_in, is_slotted, is_slotwise, kind_in, spelling_at, valid_of}
 use Rattle.json_stream.specs.declared.column.Stretch.{Stretch}
 use Rattle.json_stream.specs.declared.column.ColumnParts.{ColumnParts}
 use Rattle.json_stream.specs.declared.field.EncodedField.{EncodedField}

@@ -2,9 +2,7 @@
 use Rattle.std.proofs.Common.{◌≡◌, ◌∙◌, ℕ, zero, suc, List, [], ◌∷◌, ◌++◌, length, Bool, Some, refl, sym, ap, ap₂}
 use Rattle.std.specs.List.{slice_get}
 use Rattle.std.proofs.lemmas.List.{map-append, length-map}
-use Rattle.json_read.specs.Data.{Data, no_items}
-use Rattle.json_read.specs.JsonNumber.{flag_of}
-use Rattle.json_read.specs.JsonColumn.{flagged_at}
+use Rattle.json_read.specs.Prelude.{Data, flag_of, flagged_at, no_items}
 use Rattle.json_scan.specs.Spelling.{before}
 use Rattle.json_stream.specs.Validity.{AreFlags}
 

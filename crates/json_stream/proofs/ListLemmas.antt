@@ -4,37 +4,16 @@ use Rattle.std.specs.Prelude.{IfSome}
 use Rattle.std.specs.List.{range_with_len}
 use Rattle.std.proofs.lemmas.List.FromFn.{fill_by_all}
 use Rattle.std.proofs.lemmas.Option.{slice_get-get_or, slice_get_within}
-use Rattle.arrays.specs.OffsetWidth.{OffsetWidth}
-use Rattle.arrays.specs.IntType.{IntType}
-use Rattle.arrays.specs.OffsetSize.{offset_type}
-use Rattle.arrays.specs.Fault.{is_validity_short}
-use Rattle.arrays.specs.FromParts.{list_parts}
+use Rattle.arrays.specs.Prelude.{IntType, IsBufferOf, Kind, OffsetWidth, Seen, bytes_of_number, is_of_type, is_valid_in, is_validity_short, kept, list_parts, offset_type, same_kind}
 use Rattle.arrays.specs.Kind as kind
-use Rattle.arrays.specs.Kind.{Kind, same_kind}
-use Rattle.arrays.specs.Layout.{is_valid_in}
-use Rattle.arrays.specs.Number.{bytes_of_number, is_of_type}
-use Rattle.arrays.specs.Packed.{IsBufferOf}
-use Rattle.arrays.specs.Seen.{Seen}
-use Rattle.arrays.specs.Shown.{kept}
 use Rattle.arrays.proofs.ValidityLemmas.{IsKept, kept_buffer}
-use Rattle.json_read.specs.Data.{Data, object, array, no_items, Members, put}
-use Rattle.json_read.specs.Find.{get_item, get_member, as_array}
-use Rattle.json_read.specs.Events.{items_len}
-use Rattle.json_read.specs.JsonMember.{ReadsFirst}
-use Rattle.json_read.specs.JsonNumber.{count_of, fitting, integer_of, whole_of}
-use Rattle.json_read.specs.JsonPath.{member_name}
+use Rattle.json_read.specs.Prelude.{Data, HasListMembers, HoldsColumn, HoldsFlags, HoldsOffsets, Members, ReadsFirst, SpellsOffset, are_enough, array, as_array, count_of, fitting, get_item, get_member, integer_of, items_len, lists_fault, member_name, no_items, object, put, whole_of}
 use Rattle.json_read.specs.Members as member
 use Rattle.json_read.proofs.JsonItems.{slice_get-front, slice_get-last, first_pushed}
-use Rattle.json_read.specs.JsonBatch.{HoldsColumn}
-use Rattle.json_read.specs.JsonList.{SpellsOffset, are_enough, lists_fault, HasListMembers}
-use Rattle.json_read.specs.ListBuffers.{HoldsFlags, HoldsOffsets}
 use Rattle.json_read.proofs.JsonLists.{offset_bytes-push, column_plain, lists_hold, child_holds}
 use Rattle.json_scan.specs.Spelling.{SpellsAt, before}
 use Rattle.json_scan.proofs.Values.{same_value}
-use Rattle.json_stream.specs.Column.{IsCountMember}
-use Rattle.json_stream.specs.Validity.{IsValidity, valid_of}
-use Rattle.json_stream.specs.Offsets.{AreSpelledOffsets, IsOffsets}
-use Rattle.json_stream.specs.Lists.{IsOnStretch, HoldsChild, HoldsOnlyChild, HoldsChildMember, HoldsLists, array_of_one}
+use Rattle.json_stream.specs.Prelude.{AreSpelledOffsets, HoldsChild, HoldsChildMember, HoldsLists, HoldsOnlyChild, IsCountMember, IsOffsets, IsOnStretch, IsValidity, array_of_one, valid_of}
 use Rattle.json_stream.specs.declared.column.Stretch.{Stretch}
 use Rattle.json_stream.specs.declared.list.Child.{Child}
 use Rattle.json_stream.specs.declared.list.ListParts.{ListParts}

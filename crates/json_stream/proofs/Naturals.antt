@@ -1,14 +1,10 @@
 -- Numbers from 0 up.
 use Rattle.std.proofs.Common.{◌≡◌, ◌∙◌, ℕ, ◌<◌, ◌==◌, drop, slice_index, ℤ, pos, negsuc, ◌≤ℤ◌, nat_abs, Bool, true, false, true≢false, cond, Float, List, Option, Some, None, option_map, refl, sym, ap, arith}
 use Rattle.std.proofs.lemmas.Bool.Decides.{nat_tests}
-use Rattle.json_scan.specs.Text.{minus, Parts, scan, digits_of, with_sign}
+use Rattle.json_scan.specs.Prelude.{Parts, Spells, after_value, begins_colon, between, digits_of, fresh, lex, minus, scan, tokens_in, with_sign}
 use Rattle.json_scan.specs.Json as json
-use Rattle.json_scan.specs.Lex.{lex, between, after_value, fresh, begins_colon}
-use Rattle.json_read.specs.Data.{Num, unsigned, negative, float, number, array, object, Items, Members, no_members}
-use Rattle.json_read.specs.Find.{as_integer, as_u64}
-use Rattle.json_read.specs.Read.{number_from, of_json, of_items, of_members}
+use Rattle.json_read.specs.Prelude.{Items, Members, Num, array, as_integer, as_u64, float, negative, no_members, number, number_from, object, of_items, of_json, of_members, unsigned}
 use Rattle.serde_json.specs.Read.{number_of}
-use Rattle.json_scan.specs.Spelling.{tokens_in, Spells}
 use Rattle.json_scan.proofs.Values.{unconverted}
 
 no_some : {A : Type 0} (a : A) → Some a ≡ None → ⊥

@@ -1,6 +1,6 @@
 -- The integer of a text.
 use Rattle.std.proofs.Common.{◌≡◌, ◌^◌, ℕ, ℤ, nat_abs, nat_lt, Bool, true, false, cond, List, Option, Some, None, option_and_then, sym}
-use Rattle.json_read.specs.JsonNumber.{narrow, spelled}
+use Rattle.json_read.specs.Prelude.{narrow, spelled}
 
 chosen : (b : Bool) (z w : ℤ) → Some w ≡ cond b (Some z) None → Some z ≡ Some w
 chosen true z w e = sym e

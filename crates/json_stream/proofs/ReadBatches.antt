@@ -5,25 +5,14 @@ use Rattle.std.proofs.lemmas.List.{length-map}
 use Rattle.std.proofs.lemmas.Option.{slice_get-map, slice_get_within, get_or_from_slice_get}
 use Rattle.std.proofs.lemmas.Bool.Decides.{nat_tests}
 use Rattle.std.proofs.lemmas.Bool.{eq-eqb}
-use Rattle.arrays.specs.Kind.{same_kind}
-use Rattle.arrays.specs.Shape.{FieldShape, kind_of_field}
-use Rattle.arrays.specs.Seen.{Seen}
-use Rattle.arrays.specs.Batch.{Batch, batch_fault, differing_type, differing_length}
+use Rattle.arrays.specs.Prelude.{Batch, FieldShape, Seen, batch_fault, differing_length, differing_type, kind_of_field, same_kind}
 use Rattle.arrays.proofs.ListArrays.{same_kind-refl}
-use Rattle.json_read.specs.Data.{Data, object, array, Members, no_items, put}
-use Rattle.json_read.specs.Find.{get_member, as_array}
-use Rattle.json_read.specs.JsonNumber.{count_of}
-use Rattle.json_read.specs.JsonPath.{member_name}
-use Rattle.json_read.specs.JsonTable.{table_of}
+use Rattle.json_read.specs.Prelude.{Coding, Data, Members, ReadsBatch, ReadsColumns, ReadsTop, array, as_array, count_of, get_member, member_name, no_items, object, put, table_of}
 use Rattle.json_read.specs.Members as member
 use Rattle.json_read.proofs.MemberLaws.{slice_get_some}
-use Rattle.json_read.specs.JsonBatch.{ReadsTop, ReadsColumns, ReadsBatch}
-use Rattle.json_read.specs.JsonCatalog.{Coding}
 use Rattle.json_read.proofs.JsonSchemas.{position-none}
 use Rattle.json_scan.specs.Spelling.{before}
-use Rattle.json_stream.specs.Column.{IsCountMember}
-use Rattle.json_stream.specs.Columns.{AreReadColumns}
-use Rattle.json_stream.specs.Batch.{IsColumns, HoldsBatch, HasMembers}
+use Rattle.json_stream.specs.Prelude.{AreReadColumns, HasMembers, HoldsBatch, IsColumns, IsCountMember}
 use Rattle.json_stream.specs.declared.batch.BatchMembers.{BatchMembers}
 use Rattle.json_stream.specs.declared.batch.BatchParts.{BatchParts}
 use Rattle.json_stream.proofs.SlotLemmas.{items_len-before, get_item-before}

@@ -1,17 +1,11 @@
 -- Slots one after another.
 use Rattle.std.proofs.Common.{◌≡◌, ◌∙◌, ℕ, zero, suc, ◌+◌, ◌<◌, List, [], ◌∷◌, ◌++◌, length, Bool, false, Option, Some, None, refl, sym, ap, ap₂, subst, arith, length-append, below_more}
 use Rattle.std.specs.List.{slice_get}
-use Rattle.arrays.specs.OffsetWidth.{OffsetWidth}
-use Rattle.arrays.specs.OffsetWidths.{Narrow, Wide}
-use Rattle.arrays.specs.Item.{Item}
-use Rattle.json_read.specs.Data.{Data, Items, no_items}
-use Rattle.json_read.specs.Find.{get_item}
-use Rattle.json_read.specs.Events.{items_len}
+use Rattle.arrays.specs.Prelude.{Item, Narrow, OffsetWidth, Wide}
+use Rattle.json_read.specs.Prelude.{Data, Items, ReadsSlots, Spelling, flagged_at, get_item, is_past_offsets, items_len, no_items, slot_of}
 use Rattle.json_read.proofs.JsonItems.{slice_get-front, slice_get-last}
-use Rattle.json_read.specs.JsonColumn.{Spelling, is_past_offsets, slot_of, flagged_at, ReadsSlots}
 use Rattle.json_scan.specs.Spelling.{before}
-use Rattle.json_stream.specs.Validity.{valid_of}
-use Rattle.json_stream.specs.Slots.{AreSlots, IsSlotAdded}
+use Rattle.json_stream.specs.Prelude.{AreSlots, IsSlotAdded, valid_of}
 
 pub items_len-before : (ds : List Data) → items_len (before ds no_items) ≡ length ds
 items_len-before [] = refl

@@ -1,13 +1,8 @@
 -- A batch, as far as its members are read. (Arrow integration testing, "JSON test data format", RecordBatch)
 use Rattle.std.specs.Prelude.{◌≡◌, List, Option, Some, None, option_map, option_and_then}
-use Rattle.arrays.specs.Seen.{Seen}
-use Rattle.arrays.specs.Shape.{FieldShape}
-use Rattle.json_read.specs.Data.{Data, Members, array, no_items}
-use Rattle.json_read.specs.Find.{get_member}
-use Rattle.json_read.specs.JsonNumber.{count_of}
-use Rattle.json_read.specs.JsonPath.{member_name}
+use Rattle.arrays.specs.Prelude.{FieldShape, Seen}
+use Rattle.json_read.specs.Prelude.{Coding, Data, Members, array, count_of, get_member, member_name, no_items}
 use Rattle.json_read.specs.Members as member
-use Rattle.json_read.specs.JsonCatalog.{Coding}
 use Rattle.json_scan.specs.Spelling.{before}
 use Rattle.json_stream.specs.Column.{IsCountMember}
 use Rattle.json_stream.specs.Columns.{AreReadColumns}

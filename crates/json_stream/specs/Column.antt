@@ -1,15 +1,9 @@
 -- The members of a column object, as far as they are read. (Arrow integration testing, "JSON test data format", FieldData)
 use Rattle.std.specs.Prelude.{◌≡◌, ℕ, List, drop, Bool, false, Option, Some, None, option_and_then}
-use Rattle.arrays.specs.Kind.{Kind}
-use Rattle.arrays.specs.Seen.{Seen}
-use Rattle.json_scan.specs.Lex.{lex, between, begins_colon}
-use Rattle.json_read.specs.Data.{Data, Members, array, no_items}
-use Rattle.json_read.specs.Find.{get_member}
-use Rattle.json_read.specs.JsonNumber.{count_of}
-use Rattle.json_read.specs.JsonPath.{member_name}
+use Rattle.arrays.specs.Prelude.{Kind, Seen}
+use Rattle.json_scan.specs.Prelude.{SpellsAt, before, begins_colon, between, lex}
+use Rattle.json_read.specs.Prelude.{Coding, Data, Members, array, count_of, get_member, member_name, no_items}
 use Rattle.json_read.specs.Members as member
-use Rattle.json_read.specs.JsonCatalog.{Coding}
-use Rattle.json_scan.specs.Spelling.{SpellsAt, before}
 use Rattle.json_stream.specs.Validity.{IsValidity}
 use Rattle.json_stream.specs.Slots.{HoldsSlots}
 use Rattle.json_stream.specs.declared.column.Stretch.{Stretch}

@@ -1,10 +1,7 @@
 -- The columns of a batch, one after another. (Arrow integration testing, "JSON test data format", RecordBatch)
 use Rattle.std.specs.Prelude.{◌≡◌, ℕ, ◌≤◌, List, length, slice_get, Option, Some}
-use Rattle.arrays.specs.Seen.{Seen}
-use Rattle.arrays.specs.Shape.{FieldShape, kind_of_field}
-use Rattle.json_read.specs.Data.{Data}
-use Rattle.json_read.specs.JsonBatch.{HoldsTop}
-use Rattle.json_read.specs.JsonCatalog.{Coding}
+use Rattle.arrays.specs.Prelude.{FieldShape, Seen, kind_of_field}
+use Rattle.json_read.specs.Prelude.{Coding, Data, HoldsTop}
 
 -- A column of the first fields, as the catalog says, for each value, whatever its length.
 pub record AreReadColumns (fields : List FieldShape) (catalog : List (Option Coding)) (ds : List Data) (columns : List Seen) : Type 0 where

@@ -1,6 +1,6 @@
 -- What stands at a cursor, or after spaces.
 use Rattle.std.specs.Prelude.{ℕ, ◌<◌, ◌≤◌, List, length, drop}
-use Rattle.json_read.specs.Data.{Data, array, no_items}
+use Rattle.json_read.specs.Prelude.{Data, array, no_items}
 use Rattle.json_scan.specs.Spelling.{SpellsAt, before}
 use Rattle.json_stream.specs.declared.cursor.Cursor.{Cursor}
 

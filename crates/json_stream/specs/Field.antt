@@ -1,9 +1,7 @@
 -- A field, and how its column is encoded, as they are lent.
 use Rattle.std.specs.Prelude.{Option, option_map}
-use Rattle.arrays.specs.Field.{out-Field}
-use Rattle.arrays.specs.Kind.{Kind, kind_of}
-use Rattle.json_read.specs.CatalogParts.{coding_of}
-use Rattle.json_read.specs.JsonCatalog.{Coding}
+use Rattle.arrays.specs.Prelude.{Kind, kind_of, out-Field}
+use Rattle.json_read.specs.Prelude.{Coding, coding_of}
 use Rattle.json_stream.specs.declared.field.EncodedField.{EncodedField}
 
 abbrev pub kind_in : EncodedField → Kind

@@ -8,3 +8,4 @@ pub mod Offsets
 pub mod Lists
 pub mod Columns
 pub mod Batch
+pub mod Prelude

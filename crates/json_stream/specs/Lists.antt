@@ -1,14 +1,9 @@
 -- The members of a column object of lists, as far as they are read. (Arrow integration testing, "JSON test data format", FieldData)
 use Rattle.std.specs.Prelude.{◌≡◌, ℕ, ◌-◌, List, [], ◌∷◌, length, drop, false, Option, Some, None}
-use Rattle.arrays.specs.OffsetWidth.{OffsetWidth}
-use Rattle.arrays.specs.Kind.{Kind}
-use Rattle.json_scan.specs.Lex.{lex, between, begins_colon}
-use Rattle.json_read.specs.Data.{Data, Members, array, item, no_items}
-use Rattle.json_read.specs.Find.{get_member}
-use Rattle.json_read.specs.JsonPath.{member_name}
+use Rattle.arrays.specs.Prelude.{Kind, OffsetWidth}
+use Rattle.json_scan.specs.Prelude.{SpellsAt, begins_colon, between, lex}
+use Rattle.json_read.specs.Prelude.{Data, HoldsColumn, Members, array, get_member, item, member_name, no_items}
 use Rattle.json_read.specs.Members as member
-use Rattle.json_read.specs.JsonBatch.{HoldsColumn}
-use Rattle.json_scan.specs.Spelling.{SpellsAt}
 use Rattle.json_stream.specs.Column.{IsCountMember}
 use Rattle.json_stream.specs.Validity.{IsValidity}
 use Rattle.json_stream.specs.Offsets.{IsOffsets}

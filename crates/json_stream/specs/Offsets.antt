@@ -1,9 +1,7 @@
 -- The member OFFSET of a column of lists. (Arrow integration testing, "JSON test data format", FieldData)
 use Rattle.std.specs.Prelude.{◌≡◌, Option, Some, None}
-use Rattle.arrays.specs.OffsetWidth.{OffsetWidth}
-use Rattle.json_read.specs.Data.{Data, Items, array}
-use Rattle.json_read.specs.Events.{items_len}
-use Rattle.json_read.specs.ListBuffers.{HoldsOffsets}
+use Rattle.arrays.specs.Prelude.{OffsetWidth}
+use Rattle.json_read.specs.Prelude.{Data, HoldsOffsets, Items, array, items_len}
 use Rattle.json_stream.specs.declared.offsets.Offsets.{Offsets}
 
 -- The bytes are the numbers that the values spell, and there are so many of them.

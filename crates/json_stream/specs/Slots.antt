@@ -1,12 +1,8 @@
 -- The member DATA of a column whose slots have a value each. (Arrow integration testing, "JSON test data format", FieldData)
 use Rattle.std.specs.Prelude.{◌≡◌, ℕ, ◌<◌, List, [], ◌∷◌, ◌++◌, length, slice_get, Bool, false, true, Option, Some, None}
-use Rattle.arrays.specs.Item.{Item}
-use Rattle.arrays.specs.Kind.{Kind, int, boolean, texts, lists, dict}
-use Rattle.arrays.specs.Seen.{Seen}
-use Rattle.json_read.specs.Data.{Data}
-use Rattle.json_read.specs.JsonCatalog.{Coding}
-use Rattle.json_read.specs.JsonCodes.{indices}
-use Rattle.json_read.specs.JsonColumn.{Spelling, spelling_of, overflows, slot_of}
+use Rattle.arrays.specs.Prelude.{Item, Kind, Seen}
+use Rattle.arrays.specs.Kind.{int, boolean, texts, lists, dict}
+use Rattle.json_read.specs.Prelude.{Coding, Data, Spelling, indices, overflows, slot_of, spelling_of}
 use Rattle.json_stream.specs.Validity.{valid_of}
 
 -- What the values of a column's slots spell: where it is encoded, the entries that they name.

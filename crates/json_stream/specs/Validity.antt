@@ -1,8 +1,6 @@
 -- The member VALIDITY of a column, as bits. (Arrow integration testing, "JSON test data format", FieldData)
 use Rattle.std.specs.Prelude.{◌≡◌, ℕ, List, map, slice_get, Bool, true, Option, Some, None}
-use Rattle.json_read.specs.Data.{Data, no_items}
-use Rattle.json_read.specs.JsonNumber.{flag_of}
-use Rattle.json_read.specs.JsonColumn.{flags_of}
+use Rattle.json_read.specs.Prelude.{Data, flag_of, flags_of, no_items}
 use Rattle.json_scan.specs.Spelling.{before}
 
 -- The values are flags, and these are what they say.

@@ -3,11 +3,8 @@
 ghost use Rattle.std.specs.Prelude.{◌≡◌, ◌<◌, ◌≤◌, List, length, drop, map, Option, option_map, IfOk, IsTrue};
 ghost use Rattle.std.specs.Arc.{arc_value};
 ghost use Rattle.std.specs.List.{All};
-ghost use Rattle.arrays.specs.Shape.{fields_of};
-ghost use Rattle.json_read.specs.Data.{Data, Members, object};
-ghost use Rattle.json_read.specs.JsonTable.{table_of};
-ghost use Rattle.json_read.specs.CatalogParts.{coding_of};
-ghost use Rattle.json_read.specs.JsonBatch.{ReadsBatch};
+ghost use Rattle.arrays.specs.Prelude.{fields_of};
+ghost use Rattle.json_read.specs.Prelude.{Data, Members, ReadsBatch, coding_of, object, table_of};
 ghost use Rattle.json_read.specs.JsonCatalog as coded;
 ghost use Rattle.json_scan.specs.Spelling.{SpellsAt};
 ghost use Rattle.json_stream.specs.Batch.{HasMembers};
@@ -42,7 +39,7 @@ pub(crate) struct BatchParts<'f> {
 
 impl MemberVisitor for BatchParts<'_> {
     ghost use Rattle.std.specs.Prelude.{◌≡◌, map, option_map};
-    ghost use Rattle.arrays.specs.Shape.{fields_of};
+    ghost use Rattle.arrays.specs.Prelude.{fields_of};
     ghost use Rattle.json_read.specs.CatalogParts.{coding_of};
     ghost use Rattle.json_stream.specs.Batch.{HoldsBatch};
 

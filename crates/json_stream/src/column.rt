@@ -1,11 +1,8 @@
 //! Column objects: their members in any order, of those of one name the last.
 
 ghost use Rattle.std.specs.Prelude.{◌≡◌, ◌<◌, ◌≤◌, length, drop, List, Option, Some, option_map, IfOk, IfSome, IsTrue};
-ghost use Rattle.arrays.specs.Field.{out-Field};
-ghost use Rattle.arrays.specs.Kind.{kind_of};
-ghost use Rattle.json_read.specs.Data.{Data, Members, object};
-ghost use Rattle.json_read.specs.CatalogParts.{coding_of};
-ghost use Rattle.json_read.specs.JsonBatch.{HoldsColumn, HoldsTop};
+ghost use Rattle.arrays.specs.Prelude.{kind_of, out-Field};
+ghost use Rattle.json_read.specs.Prelude.{Data, HoldsColumn, HoldsTop, Members, coding_of, object};
 ghost use Rattle.json_scan.specs.Spelling.{SpellsAt};
 ghost use Rattle.json_stream.specs.Column.{HoldsParts, IsValues, StandsOn};
 ghost use Rattle.json_stream.specs.Cursor.{HasAt, HasValue, IsBehind};

@@ -1,9 +1,8 @@
 //! The columns of a batch.
 
 ghost use Rattle.std.specs.Prelude.{◌≡◌, ◌<◌, ◌≤◌, List, length, drop, map, option_map, IfOk};
-ghost use Rattle.arrays.specs.Shape.{fields_of};
-ghost use Rattle.json_read.specs.Data.{Data, array, no_items};
-ghost use Rattle.json_read.specs.CatalogParts.{coding_of};
+ghost use Rattle.arrays.specs.Prelude.{fields_of};
+ghost use Rattle.json_read.specs.Prelude.{Data, array, coding_of, no_items};
 ghost use Rattle.json_scan.specs.Spelling.{SpellsAt, before};
 ghost use Rattle.json_stream.specs.Columns.{AreReadColumns};
 
@@ -24,7 +23,7 @@ struct Columns<'f> {
 
 impl ItemVisitor for Columns<'_> {
     ghost use Rattle.std.specs.Prelude.{◌≡◌, map, option_map};
-    ghost use Rattle.arrays.specs.Shape.{fields_of};
+    ghost use Rattle.arrays.specs.Prelude.{fields_of};
     ghost use Rattle.json_read.specs.CatalogParts.{coding_of};
     ghost use Rattle.json_stream.specs.Columns.{AreReadColumns};
 

@@ -1,16 +1,9 @@
 //! Columns of lists: their members in any order, of those of one name the last.
 
 ghost use Rattle.std.specs.Prelude.{◌≡◌, ◌-◌, ◌<◌, ◌≤◌, ◌||◌, ◌&&◌, ◌==◌, ◌+◌, false, true, length, drop, Some, IfOk, IfSome, option_and_then};
-ghost use Rattle.arrays.specs.Field.{out-Field};
-ghost use Rattle.arrays.specs.Fault.{is_validity_short};
-ghost use Rattle.arrays.specs.FromParts.{list_parts};
+ghost use Rattle.arrays.specs.Prelude.{IsBufferOf, is_validity_short, kept, kind_of, list_parts, out-Field, same_kind};
 ghost use Rattle.arrays.specs.Kind as kind;
-ghost use Rattle.arrays.specs.Kind.{kind_of, same_kind};
-ghost use Rattle.arrays.specs.Packed.{IsBufferOf};
-ghost use Rattle.arrays.specs.Shown.{kept};
-ghost use Rattle.json_read.specs.Data.{Data, Members, object};
-ghost use Rattle.json_read.specs.JsonBatch.{HoldsColumn};
-ghost use Rattle.json_read.specs.JsonList.{are_enough, lists_fault};
+ghost use Rattle.json_read.specs.Prelude.{Data, HoldsColumn, Members, are_enough, lists_fault, object};
 ghost use Rattle.json_stream.specs.Cursor.{HasAt, HasValue, IsBehind};
 ghost use Rattle.json_stream.specs.Lists.{HoldsChild, HoldsLists, IsOnStretch, array_of_one};
 
@@ -84,8 +77,7 @@ struct Children<'f> {
 
 impl ItemVisitor for Children<'_> {
     ghost use Rattle.std.specs.Prelude.{◌≡◌};
-    ghost use Rattle.arrays.specs.Field.{out-Field};
-    ghost use Rattle.arrays.specs.Kind.{kind_of};
+    ghost use Rattle.arrays.specs.Prelude.{kind_of, out-Field};
     ghost use Rattle.json_stream.specs.Lists.{HoldsOnlyChild};
 
     ghost holds = { λ text depth first ds now. (now.item ≡ first.item)
@@ -141,8 +133,7 @@ struct ListMembers<'f> {
 
 impl MemberVisitor for ListMembers<'_> {
     ghost use Rattle.std.specs.Prelude.{◌≡◌};
-    ghost use Rattle.arrays.specs.Field.{out-Field};
-    ghost use Rattle.arrays.specs.Kind.{kind_of};
+    ghost use Rattle.arrays.specs.Prelude.{kind_of, out-Field};
     ghost use Rattle.json_stream.specs.Lists.{HoldsLists};
 
     ghost holds = { λ text depth first ms now. (now.width ≡ first.width) × (now.item ≡ first.item)

@@ -1,9 +1,7 @@
 //! Numbers from 0 up, and flags.
 
 ghost use Rattle.std.specs.Prelude.{◌≡◌, ◌<◌, ◌≤◌, ◌^◌, length, drop, Some, IfOk, IfSome};
-ghost use Rattle.json_read.specs.Data.{Num, Data, number};
-ghost use Rattle.json_read.specs.Find.{as_u64};
-ghost use Rattle.json_read.specs.JsonNumber.{count_of, flag_number, flag_of};
+ghost use Rattle.json_read.specs.Prelude.{Data, Num, as_u64, count_of, flag_number, flag_of, number};
 ghost use Rattle.json_scan.specs.Spelling.{Spells};
 ghost use Rattle.json_stream.specs.Cursor.{HasValue, IsBehind};
 

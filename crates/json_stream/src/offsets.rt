@@ -1,7 +1,7 @@
 //! OFFSET: where lists begin and end among the items of their child.
 
 ghost use Rattle.std.specs.Prelude.{◌≡◌, ◌<◌, ◌≤◌, length, drop, IfOk};
-ghost use Rattle.json_read.specs.Data.{Items, array};
+ghost use Rattle.json_read.specs.Prelude.{Items, array};
 ghost use Rattle.json_stream.specs.Cursor.{HasAt, IsBehind};
 ghost use Rattle.json_stream.specs.Offsets.{AreSpelledOffsets};
 
@@ -23,7 +23,7 @@ pub(crate) struct Offsets {
 
 impl ItemVisitor for Offsets {
     ghost use Rattle.std.specs.Prelude.{◌≡◌};
-    ghost use Rattle.json_read.specs.Data.{no_items};
+    ghost use Rattle.json_read.specs.Prelude.{no_items};
     ghost use Rattle.json_scan.specs.Spelling.{before};
     ghost use Rattle.json_stream.specs.Offsets.{AreSpelledOffsets};
 

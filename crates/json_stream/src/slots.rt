@@ -3,12 +3,8 @@
 ghost use Rattle.std.specs.Prelude.{◌≡◌, ◌<◌, ◌≤◌, ◌∷◌, ◌++◌, [], length, drop, true, IfOk, OnErr, OnOk};
 ghost use Rattle.std.specs.Arc.{arc_value};
 ghost use Rattle.std.specs.List.{All};
-ghost use Rattle.arrays.specs.Limits.{most_slots};
-ghost use Rattle.arrays.specs.Dictionary.{is_code};
-ghost use Rattle.arrays.specs.Item.{int, null};
-ghost use Rattle.arrays.specs.Kind.{int32};
-ghost use Rattle.json_read.specs.Data.{Data};
-ghost use Rattle.json_read.specs.Unfit.{HasNextItem};
+ghost use Rattle.arrays.specs.Prelude.{int, int32, is_code, most_slots, null};
+ghost use Rattle.json_read.specs.Prelude.{Data, HasNextItem};
 ghost use Rattle.json_scan.specs.Spelling.{Spells};
 ghost use Rattle.json_stream.specs.Slots.{spelling_at};
 
@@ -21,8 +17,7 @@ use json_scan::{Miss, read_text};
 /// A column in the making, of which each slot has a value of its own. Where nothing is added, the column is as it was.
 pub(crate) trait SlotBuilder: Drop {
     ghost use Rattle.std.specs.Prelude.{List, Option};
-    ghost use Rattle.arrays.specs.Item.{Item};
-    ghost use Rattle.arrays.specs.Kind.{Kind};
+    ghost use Rattle.arrays.specs.Prelude.{Item, Kind};
     ghost use Rattle.json_read.specs.JsonCatalog.{Coding};
 
     ghost kind: { Self → Kind };

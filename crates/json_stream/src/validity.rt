@@ -1,7 +1,7 @@
 //! VALIDITY: which slots of a column are valid.
 
 ghost use Rattle.std.specs.Prelude.{◌≡◌, ◌<◌, ◌≤◌, length, drop, Some, IfOk};
-ghost use Rattle.json_read.specs.Data.{Data};
+ghost use Rattle.json_read.specs.Prelude.{Data};
 ghost use Rattle.json_stream.specs.Cursor.{HasValue, IsBehind};
 ghost use Rattle.json_stream.specs.Validity.{AreFlags, IsValidity, valid_of};
 

@@ -1,12 +1,9 @@
 //! DATA: the values of a column's slots.
 
 ghost use Rattle.std.specs.Prelude.{◌≡◌, ◌<◌, ◌≤◌, List, [], length, drop, None, Some, IfOk, IsTrue, OnErr};
-ghost use Rattle.arrays.specs.Field.{out-Field};
-ghost use Rattle.arrays.specs.Limits.{most_slots};
+ghost use Rattle.arrays.specs.Prelude.{kind_of, most_slots, out-Field};
 ghost use Rattle.arrays.specs.Kind as kind;
-ghost use Rattle.arrays.specs.Kind.{kind_of};
-ghost use Rattle.json_read.specs.Data.{Data, array, no_items};
-ghost use Rattle.json_read.specs.CatalogParts.{coding_of};
+ghost use Rattle.json_read.specs.Prelude.{Data, array, coding_of, no_items};
 ghost use Rattle.json_stream.specs.Cursor.{HasValue, HasValues, IsBehind};
 ghost use Rattle.json_stream.specs.Field.{coding_in, kind_in};
 ghost use Rattle.json_stream.specs.Slots.{IsSlotAdded, HoldsSlots, is_slotted, spelling_at};

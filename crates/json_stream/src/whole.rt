@@ -1,8 +1,7 @@
 //! Whole numbers, as JSON numbers and as texts.
 
 ghost use Rattle.std.specs.Prelude.{◌≡◌, ◌<◌, ◌≤◌, length, drop, Some, IfSome};
-ghost use Rattle.json_read.specs.Data.{Data};
-ghost use Rattle.json_read.specs.JsonNumber.{whole_of};
+ghost use Rattle.json_read.specs.Prelude.{Data, whole_of};
 ghost use Rattle.json_scan.specs.Spelling.{Spells};
 
 use json_read::text_integer;

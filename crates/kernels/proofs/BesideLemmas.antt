@@ -3,21 +3,11 @@ use Rattle.std.proofs.Common.{◌≡◌, ◌∙◌, ℕ, ◌+◌, ◌<◌, ◌==
 use Rattle.std.specs.List.{range_with_len}
 use Rattle.std.specs.Option.{option_or}
 use Rattle.std.proofs.lemmas.List.{get_or-replicate, length-replicate}
-use Rattle.arrays.specs.IntType.{IntType}
-use Rattle.arrays.specs.Item.{Item, null, int, boolean, text, list}
+use Rattle.arrays.specs.Prelude.{HasNumbers, IntType, Item, Kind, Seen, boolean, int, is_of_type, item_at, kept, list, null, number_at, text, valid_at}
 use Rattle.arrays.specs.Kind as kind
-use Rattle.arrays.specs.Kind.{Kind}
-use Rattle.arrays.specs.Number.{is_of_type, number_at}
-use Rattle.arrays.specs.Seen.{Seen, valid_at}
-use Rattle.arrays.specs.Shown.{kept}
-use Rattle.arrays.specs.Values.{HasNumbers}
 use Rattle.truths.specs.Valid.{both_valid, valid_in_both}
 use Rattle.arrays.proofs.RangeLists.{map-range-below}
-use Rattle.arrays.specs.Slot.{item_at}
-use Rattle.kernels.specs.Lift.{lifted}
-use Rattle.kernels.specs.Fault.{IsKernelFault, type_fault}
-use Rattle.kernels.specs.Arithmetic.{exact, results, is_outside, first_bad, are_one_int, operands_fault, arithmetic_fault}
-use Rattle.kernels.specs.Beside.{fault_from, fault_with, has_number, number_beside, number_fault}
+use Rattle.kernels.specs.Prelude.{IsKernelFault, are_one_int, arithmetic_fault, exact, fault_from, fault_with, first_bad, has_number, is_outside, lifted, number_beside, number_fault, operands_fault, results, type_fault}
 use Rattle.kernels.specs.declared.fault.KernelFault.{KernelFault}
 use Rattle.kernels.specs.declared.fault.KernelFault.TheVariants.{TypesDiffer, LengthsDiffer, Overflow}
 use Rattle.kernels.proofs.ResultLemmas.{AreNumbers, AreOperands, column_numbers}

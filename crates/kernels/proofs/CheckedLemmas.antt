@@ -11,8 +11,7 @@ use Rattle.std.proofs.lemmas.Nat.{and_le_r}
 use Rattle.std.proofs.lemmas.Nat.Bits.{bit_at-trailing_zeros, bit_at-zero}
 use Rattle.colbits.specs.Bit.{bit_in}
 use Rattle.colbits.proofs.WordLemmas.{bit_in-and}
-use Rattle.arrays.specs.IntType.{IntType}
-use Rattle.arrays.specs.Number.{is_of_type, bytes_of_number}
+use Rattle.arrays.specs.Prelude.{IntType, bytes_of_number, is_of_type}
 use Rattle.kernels.specs.Computed.{AreOfType, AreOutside, AreResults, IsLeastOutside, bytes_of_results, result_or_zero}
 use Rattle.kernels.proofs.NumberLemmas.{AreResults-more, FitsSigned-from_test, is_of_type-zero}
 use Rattle.kernels.proofs.PackedLemmas.{bits-reported}

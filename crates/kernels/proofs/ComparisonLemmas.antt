@@ -7,16 +7,9 @@ use Rattle.std.specs.Cmp.Lexicographic.{slice_cmp}
 use Rattle.std.proofs.lemmas.List.FromFn.{get_or-map-range_with_len}
 use Rattle.arrays.proofs.RangeLists.{map-range-below}
 use Rattle.arrays.specs.Item as item
-use Rattle.arrays.specs.Item.{Item, null, int, text, is_null}
-use Rattle.arrays.specs.Offsets.{of_slot}
-use Rattle.arrays.specs.Seen.{Seen, valid_at, valid_in}
-use Rattle.arrays.specs.Slot.{holds_at, item_at}
-use Rattle.arrays.specs.Values.{HasBits, HasTexts, valid_values}
-use Rattle.kernels.specs.Lift.{lifted}
-use Rattle.arrays.specs.Order.{order}
-use Rattle.kernels.specs.Order.{compared, meets}
+use Rattle.arrays.specs.Prelude.{HasBits, HasTexts, Item, Seen, holds_at, int, is_null, item_at, null, of_slot, order, text, valid_at, valid_in, valid_values}
+use Rattle.kernels.specs.Prelude.{compared, lifted, meets, wants}
 use Rattle.truths.specs.Truth.{truth_at, truths_of}
-use Rattle.kernels.specs.Wanted.{wants}
 use Rattle.kernels.specs.declared.comparison.CmpOp.{CmpOp}
 use Rattle.kernels.specs.declared.comparison.wanted.Wanted.{Wanted}
 use Rattle.kernels.proofs.ResultLemmas.{AreNumbers}

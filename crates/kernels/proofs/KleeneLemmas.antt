@@ -3,17 +3,11 @@ use Rattle.std.proofs.Common.{◌≡◌, ◌∙◌, ℕ, ◌+◌, ◌<◌, List,
 use Rattle.std.specs.List.{range_with_len}
 use Rattle.std.proofs.lemmas.Simd.{map-map}
 use Rattle.colbits.specs.Bitmap.{bit_of}
-use Rattle.arrays.specs.Item.{null, boolean}
+use Rattle.arrays.specs.Prelude.{Kind, Seen, bool_in, boolean, item_at, item_of_bool, null, same_kind, valid_in}
 use Rattle.arrays.specs.Kind as kind
-use Rattle.arrays.specs.Kind.{Kind, same_kind}
-use Rattle.arrays.specs.Seen.{Seen, valid_in}
-use Rattle.arrays.specs.Slot.{item_at, item_of_bool}
-use Rattle.arrays.specs.Values.{bool_in}
 use Rattle.arrays.proofs.RangeLists.{map-range-below}
 use Rattle.arrays.proofs.TruthLemmas.{bool_items-slot}
-use Rattle.kernels.specs.Kleene.{and_known, conjunction, disjunction, negation, or_known, truth_of, truths_fault}
-use Rattle.kernels.specs.Known.{HasTruths}
-use Rattle.kernels.specs.Lift.{at_each_place}
+use Rattle.kernels.specs.Prelude.{HasTruths, and_known, at_each_place, conjunction, disjunction, negation, or_known, truth_of, truths_fault}
 use Rattle.truths.specs.Truth.{truth_at, truths_of}
 use Rattle.kernels.specs.declared.fault.KernelFault.{KernelFault}
 use Rattle.kernels.specs.declared.fault.KernelFault.TheVariants.{TypesDiffer}

@@ -3,18 +3,11 @@ use Rattle.std.proofs.Common.{◌≡◌, ◌∙◌, ℕ, ◌+◌, ◌<◌, List,
 use Rattle.std.specs.List.{range_with_len}
 use Rattle.std.proofs.lemmas.List.FromFn.{get_or-map-range_with_len}
 use Rattle.std.proofs.lemmas.Simd.{map-map}
-use Rattle.arrays.specs.Item.{Item, null, boolean, int, text, is_null}
-use Rattle.arrays.specs.Seen.{Seen, valid_at, valid_in}
-use Rattle.arrays.specs.Values.{HasNumbers, HasTexts, valid_values}
-use Rattle.arrays.specs.Offsets.{of_slot}
-use Rattle.arrays.specs.Kind.{int32}
-use Rattle.arrays.specs.Number.{natural, number_at}
-use Rattle.arrays.specs.Dictionary.{codes_of, dictionary_of, encoded, is_code, looked_up}
+use Rattle.arrays.specs.Prelude.{HasNumbers, HasTexts, Item, Seen, boolean, codes_of, dictionary_of, encoded, holds_at, int, int32, is_code, is_null, looked_up, natural, null, number_at, of_slot, text, valid_at, valid_in, valid_values}
 use Rattle.arrays.proofs.DictionaryViews.{named_item, valid_code}
 use Rattle.arrays.proofs.ValidityLemmas.{valid-none}
 use Rattle.std.proofs.lemmas.List.{get_or-map, length-map}
 use Rattle.std.proofs.lemmas.Option.{get_or_from_slice_get}
-use Rattle.arrays.specs.Slot.{holds_at}
 use Rattle.arrays.proofs.RangeLists.{map-range-below}
 use Rattle.truths.specs.Truth.{truth_at, truths_of}
 use Rattle.truths.proofs.TruthLemmas.{listed}

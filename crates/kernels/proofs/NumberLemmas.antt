@@ -4,11 +4,7 @@ use borrow.Author.Count.{below_more}
 use Rattle.std.specs.Int.{w128}
 use Rattle.std.proofs.lemmas.Int.{ints}
 use Rattle.std.proofs.lemmas.Nat.{row_fits}
-use Rattle.arrays.specs.Width.{Width}
-use Rattle.arrays.specs.Widths.{W8, W16, W32, W64}
-use Rattle.arrays.specs.IntType.{IntType}
-use Rattle.arrays.specs.Kind.{bytes_of}
-use Rattle.arrays.specs.Number.{number_at, is_of_type, bytes_of_number}
+use Rattle.arrays.specs.Prelude.{IntType, W16, W32, W64, W8, Width, bytes_of, bytes_of_number, is_of_type, number_at}
 use Rattle.arrays.proofs.NumberLemmas.{FitsSigned-from_type}
 use Rattle.arrays.proofs.RangeLemmas.{IsOfType-from_test}
 use Rattle.arrays.proofs.EncodingLemmas.{length-bytes_of_number, number_at-append-front, number_at-append-end}

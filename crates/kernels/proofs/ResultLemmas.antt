@@ -6,29 +6,13 @@ use Rattle.std.proofs.lemmas.Simd.{map-map}
 use Rattle.std.proofs.lemmas.List.FromFn.{get_or-map-range_with_len}
 use Rattle.std.specs.Option.{option_or}
 use Rattle.colbits.specs.Bit.{bits}
-use Rattle.arrays.specs.Width.{Width}
-use Rattle.arrays.specs.Widths.{W8, W16, W32, W64}
-use Rattle.arrays.specs.IntType.{IntType}
-use Rattle.arrays.specs.Item.{Item, null, int, is_null}
+use Rattle.arrays.specs.Prelude.{HasNumbers, IntType, IsBufferOf, Item, Kind, Seen, W16, W32, W64, W8, Width, int, is_null, is_of_type, is_valid_in, item_at, kept, least_row, no_entries, null, number_at, same_int, show_numbers, shown, valid_at, valid_in}
 use Rattle.arrays.specs.Kind as kind
-use Rattle.arrays.specs.Kind.{Kind, same_int}
-use Rattle.arrays.specs.Number.{number_at, is_of_type}
-use Rattle.arrays.specs.Layout.{is_valid_in}
-use Rattle.arrays.specs.Fault.{least_row}
-use Rattle.arrays.specs.FromParts.{show_numbers}
-use Rattle.arrays.specs.Seen.{Seen, valid_at, valid_in, no_entries}
-use Rattle.arrays.specs.Values.{HasNumbers}
 use Rattle.arrays.proofs.RangeLists.{map-range-below}
 use Rattle.arrays.proofs.RowLemmas.{least_found, least_none}
 use Rattle.arrays.proofs.SchemaLemmas.{position-map}
-use Rattle.arrays.specs.Slot.{item_at}
-use Rattle.kernels.specs.Lift.{lifted}
-use Rattle.arrays.specs.Packed.{IsBufferOf}
-use Rattle.arrays.specs.Shown.{kept, shown}
+use Rattle.kernels.specs.Prelude.{AreOfType, AreResults, IsKernelFault, IsLeastOutside, StopsAt, are_one_int, arithmetic_fault, exact, first_bad, is_outside, lifted, operands_fault, result_at, results, shape_fault}
 use Rattle.truths.specs.Valid.{valid_in_both, both_valid}
-use Rattle.kernels.specs.Fault.{IsKernelFault, shape_fault}
-use Rattle.kernels.specs.Arithmetic.{exact, results, is_outside, first_bad, are_one_int, operands_fault, arithmetic_fault}
-use Rattle.kernels.specs.Computed.{result_at, AreOfType, AreResults, IsLeastOutside, StopsAt}
 use Rattle.arrays.proofs.ValidityLemmas.{valid-kept-places, kept_buffer}
 use Rattle.kernels.specs.declared.fault.KernelFault.{KernelFault}
 use Rattle.kernels.specs.declared.fault.KernelFault.TheVariants.{TypesDiffer, LengthsDiffer, Overflow, NoMemory}

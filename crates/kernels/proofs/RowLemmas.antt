@@ -1,8 +1,7 @@
 -- The bytes of the results of a word.
 use Rattle.std.proofs.Common.{◌≡◌, ◌∙◌, ℕ, zero, suc, ◌+◌, ◌<◌, ℤ, pos, List, [], ◌∷◌, ◌++◌, Bool, length, get_or, ap, cond, sym, subst, refl, arith, add-zero}
 use Rattle.std.specs.List.{flat_map, range_with_len}
-use Rattle.arrays.specs.IntType.{IntType}
-use Rattle.arrays.specs.Number.{bytes_of_number}
+use Rattle.arrays.specs.Prelude.{IntType, bytes_of_number}
 use Rattle.kernels.specs.Computed.{AreResults, AreRows, bytes_of_results, result_or_zero}
 use Rattle.kernels.proofs.CheckedLemmas.{AreResults-word}
 

@@ -1,12 +1,8 @@
 -- Checked arithmetic on columns of one integer type.
 use Rattle.std.specs.Prelude.{ℕ, ℤ, List, Bool, false, not, Option, None, option_map, position}
 use Rattle.std.specs.Option.{option_or}
-use Rattle.arrays.specs.Item.{Item, null, int}
+use Rattle.arrays.specs.Prelude.{IntType, Item, Kind, Seen, int, is_of_type, null, same_int}
 use Rattle.arrays.specs.Kind as kind
-use Rattle.arrays.specs.Kind.{Kind, same_int}
-use Rattle.arrays.specs.Number.{is_of_type}
-use Rattle.arrays.specs.Seen.{Seen}
-use Rattle.arrays.specs.IntType.{IntType}
 use Rattle.kernels.specs.Lift.{lift}
 use Rattle.kernels.specs.Fault.{shape_fault}
 use Rattle.kernels.specs.declared.fault.KernelFault.{KernelFault}

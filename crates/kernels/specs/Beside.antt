@@ -1,11 +1,8 @@
 -- One number in place of a second column.
 use Rattle.std.specs.Prelude.{ℤ, [], Bool, false, Option, None, length, replicate}
 use Rattle.std.specs.Option.{option_or}
-use Rattle.arrays.specs.Item.{int}
+use Rattle.arrays.specs.Prelude.{Kind, Seen, int, is_of_type, no_entries}
 use Rattle.arrays.specs.Kind as kind
-use Rattle.arrays.specs.Kind.{Kind}
-use Rattle.arrays.specs.Number.{is_of_type}
-use Rattle.arrays.specs.Seen.{Seen, no_entries}
 use Rattle.kernels.specs.Arithmetic.{arithmetic_fault}
 use Rattle.kernels.specs.Fault.{type_fault}
 use Rattle.kernels.specs.declared.fault.KernelFault.{KernelFault}

@@ -2,9 +2,7 @@
 use Rattle.std.specs.Prelude.{◌≡◌, ℕ, ◌+◌, ◌*◌, ◌<◌, ◌&&◌, ℤ, pos, List, [], Bool, true, false, not, nat_lt, length, slice_index_or, if◌then◌else◌}
 use Rattle.std.specs.List.{flat_map, range_with_len}
 use Rattle.colbits.specs.Bit.{bit_in}
-use Rattle.arrays.specs.IntType.{IntType}
-use Rattle.arrays.specs.Kind.{bytes_of}
-use Rattle.arrays.specs.Number.{number_at, is_of_type, bytes_of_number}
+use Rattle.arrays.specs.Prelude.{IntType, bytes_of, bytes_of_number, is_of_type, number_at}
 use Rattle.kernels.specs.declared.fault.KernelFault.{KernelFault}
 use Rattle.kernels.specs.declared.fault.KernelFault.TheVariants.{Overflow, NoMemory}
 

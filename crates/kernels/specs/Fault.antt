@@ -1,6 +1,6 @@
 -- What a kernel refuses.
 use Rattle.std.specs.Prelude.{◌≡◌, ◌⊎◌, ◌==◌, length, Bool, not, Option, Some, None, if◌then◌else◌}
-use Rattle.arrays.specs.Seen.{Seen}
+use Rattle.arrays.specs.Prelude.{Seen}
 use Rattle.kernels.specs.declared.fault.KernelFault.{KernelFault}
 use Rattle.kernels.specs.declared.fault.KernelFault.TheVariants.{TypesDiffer, LengthsDiffer, NoMemory}
 

@@ -1,11 +1,8 @@
 -- Three-valued logic (Kleene's strong logic of indeterminacy): null is a truth value that isn't known.
 use Rattle.std.specs.Prelude.{List, map, Bool, true, false, not, ◌&&◌, Option, Some, None, option_map}
 use Rattle.arrays.specs.Item as item
-use Rattle.arrays.specs.Item.{Item}
+use Rattle.arrays.specs.Prelude.{Item, Seen, item_of_bool, same_kind}
 use Rattle.arrays.specs.Kind as kind
-use Rattle.arrays.specs.Kind.{same_kind}
-use Rattle.arrays.specs.Seen.{Seen}
-use Rattle.arrays.specs.Slot.{item_of_bool}
 use Rattle.kernels.specs.Lift.{at_each_place}
 use Rattle.kernels.specs.Fault.{shape_fault, type_fault}
 use Rattle.kernels.specs.declared.fault.KernelFault.{KernelFault}

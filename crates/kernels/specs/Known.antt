@@ -1,7 +1,6 @@
 -- Truth values that are known, or aren't.
 use Rattle.std.specs.Prelude.{◌≡◌, List, Bool, Option}
-use Rattle.arrays.specs.Seen.{Seen}
-use Rattle.arrays.specs.Values.{HasBits}
+use Rattle.arrays.specs.Prelude.{HasBits, Seen}
 
 -- The bits are a view's truth values where its slots are valid, and this is its validity.
 pub record HasTruths (bits : List Bool) (validity : Option (List Bool)) (s : Seen) : Type 0 where

@@ -1,4 +1,3 @@
-pub use Rattle.truths.specs.Truth
 pub mod Lift
 pub mod Fault
 pub mod Arithmetic
@@ -9,3 +8,4 @@ pub mod Kleene
 pub mod Nulls
 pub mod Wanted
 pub mod Known
+pub mod Prelude

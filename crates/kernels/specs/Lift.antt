@@ -1,8 +1,7 @@
 -- Functions of items, place by place.
 use Rattle.std.specs.Prelude.{◌||◌, List, map, length, if◌then◌else◌}
 use Rattle.std.specs.List.{range_with_len}
-use Rattle.arrays.specs.Item.{Item, null, is_null}
-use Rattle.arrays.specs.Slot.{item_at}
+use Rattle.arrays.specs.Prelude.{Item, is_null, item_at, null}
 
 -- f of two items, null where either is null.
 abbrev pub lifted : (Item → Item → Item) → Item → Item → Item

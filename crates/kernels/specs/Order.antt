@@ -3,12 +3,8 @@ use Rattle.std.specs.Prelude.{List, Bool, true, ◌&&◌, Option}
 use Rattle.std.specs.declared.cmp.Ordering.{Ordering}
 use Rattle.std.specs.Ordering.{is_eq, is_ne, is_lt, is_le, is_gt, is_ge}
 use Rattle.arrays.specs.Item as item
-use Rattle.arrays.specs.Item.{Item}
+use Rattle.arrays.specs.Prelude.{Item, Kind, Seen, is_text, order, same_int}
 use Rattle.arrays.specs.Kind as kind
-use Rattle.arrays.specs.Kind.{Kind, same_int}
-use Rattle.arrays.specs.Order.{order}
-use Rattle.arrays.specs.Seen.{Seen}
-use Rattle.arrays.specs.Slot.{is_text}
 use Rattle.kernels.specs.Lift.{lift}
 use Rattle.kernels.specs.Fault.{shape_fault}
 use Rattle.kernels.specs.declared.comparison.CmpOp.{CmpOp}

@@ -3,15 +3,11 @@
 ghost use Rattle.std.specs.Prelude.{◌≡◌, ◌+◌, ◌++◌, ◌<◌, ◌≤◌, ◌+ℤ◌, ◌-ℤ◌, ◌*ℤ◌, IfErr, IfNone, IfOk, IfSome, OnOk};
 ghost use Rattle.std.specs.Prelude.{None, true, false, length};
 ghost use Rattle.arrays.specs.Kind as kind;
-ghost use Rattle.arrays.specs.Number.{IsResult, is_of_type};
-ghost use Rattle.arrays.specs.Seen.{valid_in};
-ghost use Rattle.arrays.specs.ViewType.{view_kind};
+ghost use Rattle.arrays.specs.Prelude.{IsResult, is_of_type, most_slots, shown, valid_in, view_kind};
 ghost use Rattle.kernels.specs.Arithmetic.{are_one_int, arithmetic_fault, operands_fault, results};
 ghost use Rattle.kernels.specs.Beside.{fault_from, fault_with, number_beside, number_fault};
 ghost use Rattle.kernels.specs.Computed.{AreOutside, AreResults, AreRows, StopsAt, bytes_of_results, result_at};
 ghost use Rattle.kernels.specs.Fault.{IsKernelFault};
-ghost use Rattle.arrays.specs.Shown.{shown};
-ghost use Rattle.arrays.specs.Limits.{most_slots};
 
 use crate::fault::KernelFault;
 use crate::side::{One, Own, Side, type_with};
@@ -100,8 +96,7 @@ pub fn mul_number(alloc: Global, a: &View<'_>, number: i128) -> Result<Array, Ke
 /// An operation on two numbers of the eight integer types.
 trait Operation {
     ghost use Rattle.std.specs.Prelude.{◌≡◌, ◌^◌, ◌≤ℤ◌, ℤ, neg_ℤ, pos, false, IfNone, IfSome};
-    ghost use Rattle.arrays.specs.Number.{IsResult, is_of_type};
-    ghost use Rattle.arrays.specs.IntType.{IntType};
+    ghost use Rattle.arrays.specs.Prelude.{IntType, IsResult, is_of_type};
 
     // The exact result, of any size.
     ghost exact: { ℤ → ℤ → ℤ };

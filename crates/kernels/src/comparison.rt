@@ -2,13 +2,10 @@
 
 ghost use Rattle.std.specs.Prelude.{◌≡◌, None, true, length, IfOk, IfErr};
 ghost use Rattle.arrays.specs.Kind as kind;
-ghost use Rattle.arrays.specs.Slot.{is_text};
-ghost use Rattle.arrays.specs.ViewType.{view_kind};
-ghost use Rattle.arrays.specs.Number.{is_of_type};
+ghost use Rattle.arrays.specs.Prelude.{is_of_type, is_text, shown, view_kind};
 ghost use Rattle.kernels.specs.Beside.{number_beside, number_fault};
 ghost use Rattle.kernels.specs.Fault.{IsKernelFault};
 ghost use Rattle.kernels.specs.Order.{are_comparable, compared, comparison_fault};
-ghost use Rattle.arrays.specs.Shown.{shown};
 
 mod packed;
 mod pairs;

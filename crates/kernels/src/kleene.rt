@@ -2,12 +2,10 @@
 
 ghost use Rattle.std.specs.Prelude.{◌≡◌, ◌≤◌, Some, None, length, IfOk, IfErr};
 ghost use Rattle.arrays.specs.Kind as kind;
-ghost use Rattle.arrays.specs.Kind.{same_kind};
+ghost use Rattle.arrays.specs.Prelude.{most_slots, same_kind, shown};
 ghost use Rattle.kernels.specs.Fault.{IsKernelFault};
 ghost use Rattle.kernels.specs.Kleene.{conjunction, disjunction, negation, truth_fault, truths_fault};
 ghost use Rattle.kernels.specs.Known.{HasTruths};
-ghost use Rattle.arrays.specs.Shown.{shown};
-ghost use Rattle.arrays.specs.Limits.{most_slots};
 
 use crate::fault::KernelFault;
 use arrays::{Array, View, ViewType};

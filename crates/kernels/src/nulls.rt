@@ -2,10 +2,8 @@
 
 ghost use Rattle.std.specs.Prelude.{◌≡◌, ◌<◌, ℕ, false, length, IfOk, IfErr};
 ghost use Rattle.arrays.specs.Kind as kind;
-ghost use Rattle.arrays.specs.Seen.{valid_at};
-ghost use Rattle.arrays.specs.Slot.{holds_at};
+ghost use Rattle.arrays.specs.Prelude.{holds_at, shown, valid_at};
 ghost use Rattle.kernels.specs.Nulls.{nulls};
-ghost use Rattle.arrays.specs.Shown.{shown};
 
 use crate::fault::KernelFault;
 use arrays::{Array, INT32, OffsetWidth, View, ViewType};

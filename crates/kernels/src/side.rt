@@ -2,8 +2,7 @@
 
 ghost use Rattle.std.specs.Prelude.{◌≡◌, ◌<◌, ◌^◌, ◌≤ℤ◌, ℕ, ℤ, neg_ℤ, pos, true, false, IfErr, IfOk};
 ghost use Rattle.arrays.specs.Kind as kind;
-ghost use Rattle.arrays.specs.Number.{is_of_type, number_at};
-ghost use Rattle.arrays.specs.ViewType.{view_kind};
+ghost use Rattle.arrays.specs.Prelude.{is_of_type, number_at, view_kind};
 ghost use Rattle.kernels.specs.Beside.{has_number};
 
 use crate::fault::KernelFault;

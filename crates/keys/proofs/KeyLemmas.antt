@@ -8,9 +8,8 @@ use Rattle.std.proofs.lemmas.List.Folds.{list_any-append}
 use Rattle.std.proofs.lemmas.Map.Keys.{IsDistinct-push}
 use Rattle.std.proofs.lemmas.Option.{slice_get_within}
 use Rattle.indexmap.specs.IndexSet.{insert_key}
-use Rattle.arrays.specs.Item.{Item}
-use Rattle.keys.specs.Keys.{AreIds, with_keys}
-use Rattle.keys.specs.Same.{same_key}
+use Rattle.arrays.specs.Prelude.{Item}
+use Rattle.keys.specs.Prelude.{AreIds, same_key, with_keys}
 use Rattle.keys.proofs.SameLemmas.{either, same_key_equiv}
 
 -- ---- keys

@@ -10,16 +10,9 @@ use Rattle.std.proofs.lemmas.Bool.{eqb-true, eqb-false}
 use Rattle.std.proofs.lemmas.Map.Keys.{any_passes_from_place}
 use Rattle.std.proofs.lemmas.Option.{slice_get_within}
 use Rattle.indexmap.specs.IndexSet.{insert_key}
-use Rattle.arrays.specs.Batch.{Batch, row_of}
-use Rattle.arrays.specs.Dictionary.{codes_of, dictionary_of, encoded, is_code, looked_up}
-use Rattle.arrays.specs.Item.{Item, null, int}
+use Rattle.arrays.specs.Prelude.{Batch, Item, Seen, codes_of, dictionary_of, encoded, int, is_code, item_of, looked_up, natural, null, row_of}
 use Rattle.arrays.specs.Kind as kind
-use Rattle.arrays.specs.Number.{natural}
-use Rattle.arrays.specs.Seen.{Seen}
-use Rattle.arrays.specs.Slot.{item_of}
-use Rattle.keys.specs.Keys.{key_of, AreIds, keys_at, with_keys}
-use Rattle.keys.specs.Memo.{AreKeys, IsInterned, IsRemembered, Knows, KnowsEntries, KnowsItems, Remembers}
-use Rattle.keys.specs.Same.{same_key}
+use Rattle.keys.specs.Prelude.{AreIds, AreKeys, IsInterned, IsRemembered, Knows, KnowsEntries, KnowsItems, Remembers, key_of, keys_at, same_key, with_keys}
 use Rattle.keys.specs.declared.memo.Memo.{Memo}
 use Rattle.keys.proofs.KeyLemmas.{Keys, inserted, is_among, ids-push, slice_get-append}
 use Rattle.keys.proofs.SameLemmas.{either, same_key-Decides}

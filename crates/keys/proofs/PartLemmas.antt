@@ -13,14 +13,10 @@ use Rattle.std.proofs.lemmas.List.Elements.{All-head, All-tail, All-push, All-we
 use Rattle.std.proofs.lemmas.Option.{get_or_from_slice_get, slice_get-map, slice_get_within}
 use mathlib.Core.List.{IsPrefix}
 use Rattle.indexmap.specs.IndexSet.{insert_key}
-use Rattle.arrays.specs.Item.{Item, null, text}
-use Rattle.arrays.specs.Batch.{Row}
+use Rattle.arrays.specs.Prelude.{Item, Row, null, text}
 use Rattle.keys.specs.declared.part.Part.{Part}
 use Rattle.keys.specs.declared.part.Part.TheVariants as part
-use Rattle.keys.specs.Keys.{key_of}
-use Rattle.keys.specs.PartSets.{same_parts}
-use Rattle.keys.specs.Parts.{AreWithin, IsWithin, item_of_part, key_of_parts, keys_shown, same_part}
-use Rattle.keys.specs.Same.{same_item, same_key}
+use Rattle.keys.specs.Prelude.{AreWithin, IsWithin, item_of_part, key_of, key_of_parts, keys_shown, same_item, same_key, same_part, same_parts}
 
 -- Those of a list that are apart are so by what f shows of them.
 pub distinct-map : {A B : Type 0} (f : A → B) (e : A → A → Bool) (g : B → B → Bool) → ((x y : A) → e x y ≡ g (f x) (f y)) → (xs : List A) → IsDistinct e xs → IsDistinct g (map f xs)

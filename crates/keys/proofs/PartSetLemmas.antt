@@ -10,7 +10,7 @@ use Rattle.std.proofs.Math.Bool.{and-true}
 use Rattle.std.proofs.lemmas.Bool.{eqb-false, eqb-true, ltb-false}
 use Rattle.std.proofs.lemmas.Bool.Decides.{Decides-int_eq}
 use Rattle.std.proofs.lemmas.Cmp.{nat_eq_equiv}
-use Rattle.arrays.specs.Number.{natural}
+use Rattle.arrays.specs.Prelude.{natural}
 use Rattle.std.proofs.lemmas.List.{map-append, take_all, take_more}
 use Rattle.std.proofs.lemmas.List.Sums.{fold_push}
 use Rattle.std.proofs.lemmas.Map.Keys.{any_passes_from_place}
@@ -20,8 +20,7 @@ use Rattle.indexmap.proofs.SetLemmas.{set_all_distinct}
 use Rattle.keys.specs.declared.part.Part.{Part}
 use Rattle.keys.specs.declared.part.Part.TheVariants as part
 use Rattle.keys.specs.contracts.part.PartPartialEq as derived
-use Rattle.keys.specs.Parts.{same_part}
-use Rattle.keys.specs.PartSets.{one, part_of_code, parts_of_code, same_parts}
+use Rattle.keys.specs.Prelude.{one, part_of_code, parts_of_code, same_part, same_parts}
 use Rattle.keys.proofs.SameLemmas.{either}
 
 -- ---- the derived test

@@ -4,7 +4,7 @@ use Rattle.std.specs.Bool.{Decides}
 use Rattle.std.specs.Cmp.{IsEquivalence, booleans_Decides, decided}
 use Rattle.std.proofs.lemmas.Bool.Decides.{Decides-int_eq}
 use Rattle.std.proofs.lemmas.Slice.Eq.{bytes_eq-Decides}
-use Rattle.arrays.specs.Item.{Item, Items, null, int, boolean, text, list, none, more}
+use Rattle.arrays.specs.Prelude.{Item, Items, boolean, int, list, more, none, null, text}
 use Rattle.keys.specs.Same.{same_item, same_items, same_key}
 
 -- A test goes one way or the other.

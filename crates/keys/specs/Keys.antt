@@ -1,11 +1,9 @@
 -- The keys of rows, and the ids of their groups: the places of these keys among all.
 use Rattle.std.specs.Prelude.{ℕ, List, Some, map, slice_index_or, ◌≡◌, fold, slice_get}
-use Rattle.arrays.specs.Batch.{Row, row_of}
-use Rattle.arrays.specs.Item.{Item, null}
+use Rattle.arrays.specs.Prelude.{Item, Row, Seen, null, row_of}
 use Rattle.keys.specs.Same.{same_key}
 use Rattle.keys.specs.declared.columns.KeyColumns.{KeyColumns}
 use Rattle.indexmap.specs.IndexSet.{insert_key}
-use Rattle.arrays.specs.Seen.{Seen}
 
 -- The items of a row in these columns.
 abbrev pub key_of : List ℕ → Row → List Item

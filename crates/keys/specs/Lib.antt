@@ -6,3 +6,4 @@ pub mod Texts
 pub mod CodeSets
 pub mod PartSets
 pub mod Memo
+pub mod Prelude

@@ -1,10 +1,8 @@
 -- What is remembered of the ids of keys.
 use Rattle.std.specs.Prelude.{◌≡◌, ◌<◌, ℕ, List, [], ◌∷◌, Option, Some, None, length, slice_get, slice_index_or, ⊤}
 use Rattle.indexmap.specs.IndexSet.{insert_key}
-use Rattle.arrays.specs.Batch.{Batch, row_of}
-use Rattle.arrays.specs.Item.{Item, null}
+use Rattle.arrays.specs.Prelude.{Batch, Item, Seen, null, row_of}
 use Rattle.arrays.specs.Kind as kind
-use Rattle.arrays.specs.Seen.{Seen}
 use Rattle.keys.specs.Keys.{key_of}
 use Rattle.keys.specs.Same.{same_key}
 use Rattle.keys.specs.declared.memo.Memo.{Memo}

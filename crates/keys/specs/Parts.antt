@@ -2,7 +2,7 @@
 use Rattle.std.specs.Bool.{beq}
 use Rattle.std.specs.Ordering.{int_eq}
 use Rattle.std.specs.Prelude.{ℕ, ◌<◌, ◌==◌, Bool, true, false, List, [], map, slice_index_or, All, ⊤}
-use Rattle.arrays.specs.Item.{Item, null, int, boolean, text}
+use Rattle.arrays.specs.Prelude.{Item, boolean, int, null, text}
 use Rattle.keys.specs.declared.part.Part.{Part}
 use Rattle.keys.specs.declared.part.Part.TheVariants as part
 

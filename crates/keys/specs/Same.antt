@@ -3,7 +3,7 @@ use Rattle.std.specs.Prelude.{Bool, true, false, not, ◌&&◌, List, [], ◌∷
 use Rattle.std.specs.Bool.{beq}
 use Rattle.std.specs.Ordering.{int_eq}
 use Rattle.std.specs.Str.{bytes_eq}
-use Rattle.arrays.specs.Item.{Item, Items, null, int, boolean, text, list, none, more}
+use Rattle.arrays.specs.Prelude.{Item, Items, boolean, int, list, more, none, null, text}
 
 -- Whether two items are the same: null is the same as null.
 abbrev mutual

@@ -1,10 +1,8 @@
 //! The ids of keys of one dictionary-encoded column, by its codes.
 
 ghost use Rattle.std.specs.Prelude.{◌≡◌, ◌∷◌, ◌<◌, [], All, IfOk, None, OnOk, length, true};
-ghost use Rattle.arrays.specs.Dictionary.{is_code, looked_up};
-ghost use Rattle.arrays.specs.Item.{int};
+ghost use Rattle.arrays.specs.Prelude.{int, is_code, item_of, looked_up};
 ghost use Rattle.arrays.specs.Kind as kind;
-ghost use Rattle.arrays.specs.Slot.{item_of};
 ghost use Rattle.keys.specs.Keys.{AreIds, with_keys, keys_in, key_in};
 ghost use Rattle.keys.specs.Memo.{AreKeys, IsInterned, Knows, Remembers};
 

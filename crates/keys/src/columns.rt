@@ -1,10 +1,8 @@
 //! The columns by whose items rows are put into groups.
 
 ghost use Rattle.std.specs.Prelude.{◌≡◌, ◌<◌, ◌≤◌, All, None, length, slice_index_or};
-ghost use Rattle.arrays.specs.Batch.{row_of};
-ghost use Rattle.arrays.specs.Item.{null};
-ghost use Rattle.evaluate.specs.CalledColumns.{sort_at};
-ghost use Rattle.evaluate.specs.FirstFault.{key_fault};
+ghost use Rattle.arrays.specs.Prelude.{null, row_of};
+ghost use Rattle.evaluate.specs.Prelude.{key_fault, sort_at};
 ghost use Rattle.group.specs.Scalars.{item_of_ref};
 
 use arrays::RecordBatch;

@@ -3,9 +3,8 @@
 ghost use Rattle.std.specs.Prelude.{◌≡◌, ◌∷◌, ◌<◌, ◌≤◌, [], All, IfOk, None, OnOk, Some, length, map, slice_get, slice_index_or};
 ghost use Rattle.std.specs.Option.{option_copied};
 ghost use mathlib.Core.List.{IsPrefix};
-ghost use Rattle.arrays.specs.Item.{int, null};
+ghost use Rattle.arrays.specs.Prelude.{int, item_of_text, null};
 ghost use Rattle.arrays.specs.Kind as kind;
-ghost use Rattle.arrays.specs.Slot.{item_of_text};
 ghost use Rattle.indexmap.specs.IndexSet.{insert_key};
 ghost use Rattle.group.specs.Scalars.{item_of_scalar, item_of_ref};
 ghost use Rattle.keys.specs.Keys.{key_in};
@@ -36,8 +35,7 @@ pub struct KeySet<'a> {
 impl<'a> Model for KeySet<'a> {
     ghost use Rattle.std.specs.Prelude.{List, length};
     ghost use Rattle.std.specs.Coded.{coded_list};
-    ghost use Rattle.arrays.specs.Item.{Item};
-    ghost use Rattle.arrays.specs.SeenCode.{items_code};
+    ghost use Rattle.arrays.specs.Prelude.{Item, items_code};
     ghost use Rattle.keys.specs.Parts.{AreWithin, keys_shown};
     ghost use Rattle.keys.specs.PartSets.{parts_shown};
     ghost use Rattle.keys.specs.Texts.{named_texts};

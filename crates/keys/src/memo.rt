@@ -1,7 +1,7 @@
 //! What is remembered of the ids of keys, so that most rows need no look at the keys themselves.
 
 ghost use Rattle.std.specs.Prelude.{◌≡◌, ◌∷◌, ◌<◌, [], IfOk, List, None, OnOk, length, slice_index_or};
-ghost use Rattle.arrays.specs.Item.{Item, null};
+ghost use Rattle.arrays.specs.Prelude.{Item, null};
 ghost use Rattle.arrays.specs.Kind as kind;
 ghost use Rattle.keys.specs.Keys.{key_in};
 ghost use Rattle.keys.specs.Memo.{IsInterned, IsRemembered, KnowsEntries, Remembers};

@@ -2,7 +2,7 @@
 
 ghost use Rattle.std.specs.Prelude.{◌≡◌, ◌^◌, false, int_lt, pos, true};
 ghost use Rattle.std.specs.Option.{ForSome};
-ghost use Rattle.arrays.specs.Number.{is_negative, natural};
+ghost use Rattle.arrays.specs.Prelude.{is_negative, natural};
 ghost use Rattle.keys.specs.PartSets.{part_of_code};
 
 /// So many numbers from 0 on have codes, and so many texts, so that a table of places by them stays in a processor's cache.

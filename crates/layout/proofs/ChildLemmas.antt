@@ -11,9 +11,7 @@ use Rattle.types.specs.declared.offset_width.OffsetWidth.TheVariants.{Narrow, Wi
 use Rattle.layout.specs.declared.raw.RawArray.{RawArray, out-RawArray}
 use Rattle.types.specs.Kind as kind
 use Rattle.types.specs.Kind.{Kind, kind_of, bytes_of, same_int, same_kind, same_offsets}
-use Rattle.layout.specs.Fault.{Inner, do_parts_differ, is_no_child}
-use Rattle.layout.specs.Inner.{inner_children, inner_dictionary}
-use Rattle.layout.specs.Reading.{Reading, read_parts, reading, inner_of, fault, child_fault}
+use Rattle.layout.specs.Prelude.{Inner, Reading, child_fault, do_parts_differ, fault, inner_children, inner_dictionary, inner_of, is_no_child, read_parts, reading}
 use Rattle.layout.proofs.FirstFaultLemmas.{fault-none, reading-raw}
 use Rattle.layout.proofs.LawfulLemmas.{MakesArray-raw, MakesArray, either_false}
 

@@ -2,12 +2,8 @@
 use Rattle.std.proofs.Common.{◌≡◌, ◌∙◌, ℕ, List, map, Option, None, option_map, ap, sym}
 use Rattle.types.specs.declared.data_type.DataType.{DataType}
 use Rattle.layout.specs.declared.raw.RawArray.{RawArray, RawArray-F, out-RawArray, roll-RawArray, fold-roll-RawArray}
-use Rattle.types.specs.Kind.{kind_of}
-use Rattle.types.specs.Shape.{shape_of, kind_of_shape}
-use Rattle.layout.specs.Layout.{Buffers}
-use Rattle.layout.specs.Seen.{Seen}
-use Rattle.layout.specs.Checked.{checked_texts, read_checked}
-use Rattle.layout.specs.Reading.{Reading, read_parts, reading, reading_step}
+use Rattle.types.specs.Prelude.{kind_of, kind_of_shape, shape_of}
+use Rattle.layout.specs.Prelude.{Buffers, Reading, Seen, checked_texts, read_checked, read_parts, reading, reading_step}
 use Rattle.layout.proofs.FirstFaultLemmas.{entries-map, reading-raw}
 use Rattle.types.proofs.ShapeLemmas.{kind_of_shape-shape_of}
 

@@ -2,18 +2,13 @@
 use Rattle.std.proofs.Common.{◌≡◌, ℕ, ◌∙◌, List, [], ◌∷◌, ◌++◌, Bool, true, false, ◌||◌, Option, Some, None, option_map, length, map, nat_lt, ap, sym, refl}
 use Rattle.std.specs.declared.boxed.Box.{Box}
 use Rattle.std.specs.declared.alloc.Global.{Global}
-use Rattle.types.specs.Kind.{Kind, depth, kind_of}
-use Rattle.layout.specs.Layout.{Buffers, buffer_at}
+use Rattle.types.specs.Prelude.{Kind, depth, first, kind_of, most_slots}
+use Rattle.layout.specs.Prelude.{Buffers, Inner, Reading, bad_code_row, bad_text_row, buffer_at, child_fault, content_faults, content_faults_of, decreasing_row, dictionary_fault, do_parts_differ, does_count_differ, fault, has_negative_offset, inner_children, inner_dictionary, inner_of, inner_raw, is_data_short, is_missing, is_past_end, is_validity_short, own_fault, own_fault_of, positions, read_parts, reading, reading_step, shape_faults, shape_faults_of}
 use Rattle.std.specs.Bool.{then_some}
-use Rattle.types.specs.First.{first}
-use Rattle.layout.specs.Fault.{Inner, positions, is_missing, do_parts_differ, is_validity_short, is_data_short, has_negative_offset, decreasing_row, is_past_end, does_count_differ, bad_text_row, bad_code_row, own_fault, shape_faults, content_faults}
-use Rattle.layout.specs.Inner.{inner_raw, inner_children, inner_dictionary, own_fault_of, shape_faults_of, content_faults_of}
-use Rattle.layout.specs.Reading.{Reading, inner_of, reading_step, reading, child_fault, dictionary_fault, read_parts, fault}
 use Rattle.layout.specs.declared.fault.LayoutFault.{LayoutFault}
 use Rattle.layout.specs.declared.fault.LayoutFault.TheVariants.{MissingBuffer, ExtraBuffer, BufferTooShort, OffsetNegative, OffsetDecreases, OffsetPastEnd, NullCountDiffers, NotUtf8, IndexPastDictionary, ChildDiffers, TooLong, TooDeep}
 use Rattle.layout.specs.declared.raw.RawArray.{RawArray, out-RawArray, fold_out-RawArray}
 use Rattle.layout.specs.declared.raw.RawArray.TheShapes.{former-RawArray-dictionary}
-use Rattle.types.specs.Limits.{most_slots}
 
 -- ---- no fault at all
 

@@ -11,14 +11,9 @@ use Rattle.layout.specs.declared.raw.RawArray.{RawArray, out-RawArray}
 use Rattle.types.specs.declared.offset_width.OffsetWidth.{OffsetWidth}
 use Rattle.types.specs.declared.offset_width.OffsetWidth.TheVariants.{Narrow, Wide}
 use Rattle.types.specs.Kind as kind
-use Rattle.types.specs.Kind.{Kind, kind_of, same_kind}
-use Rattle.layout.specs.Layout.{Buffers}
+use Rattle.types.specs.Prelude.{Kind, first, kind_of, same_kind}
+use Rattle.layout.specs.Prelude.{Buffers, Inner, Reading, Seen, bad_code_row, bad_text_row, checked, checked_texts, child_fault, decreasing_row, dictionary_fault, do_parts_differ, does_count_differ, fault, has_negative_offset, inner_of, is_past_end, own_fault, read_checked, read_parts, reading, shape_faults}
 use Rattle.std.specs.Bool.{then_some}
-use Rattle.types.specs.First.{first}
-use Rattle.layout.specs.Fault.{shape_faults, Inner, own_fault, do_parts_differ, has_negative_offset, decreasing_row, is_past_end, does_count_differ, bad_text_row, bad_code_row}
-use Rattle.layout.specs.Reading.{Reading, read_parts, reading, inner_of, fault, child_fault, dictionary_fault}
-use Rattle.layout.specs.Checked.{checked, checked_texts, read_checked}
-use Rattle.layout.specs.Seen.{Seen}
 use Rattle.layout.proofs.FirstFaultLemmas.{own_fault-none, reading-raw}
 use Rattle.layout.proofs.SeenLemmas.{seen-kind, length-items}
 

@@ -5,11 +5,8 @@ use Rattle.std.specs.List.{position_or_len, range_with_len}
 use Rattle.std.proofs.lemmas.List.FromFn.{length-range_with_len}
 use Rattle.types.specs.declared.offset_width.OffsetWidth.{OffsetWidth}
 use Rattle.types.specs.Kind as kind
-use Rattle.types.specs.Kind.{Kind, offset_width}
-use Rattle.layout.specs.Layout.{Buffers, bytes_at, offset_at}
-use Rattle.layout.specs.Offsets.{start_at}
-use Rattle.types.specs.Number.{natural}
-use Rattle.layout.specs.Fault.{Inner, decreasing_row, least_decreasing, least_row, is_past_end, child_length}
+use Rattle.types.specs.Prelude.{Kind, natural, offset_width}
+use Rattle.layout.specs.Prelude.{Buffers, Inner, bytes_at, child_length, decreasing_row, is_past_end, least_decreasing, least_row, offset_at, start_at}
 
 -- ---- each row fails where none is reported
 

@@ -10,16 +10,12 @@ use Rattle.colbits.specs.Slice.{slice}
 use Rattle.colbits.proofs.BitLemmas.{map-range-same}
 use Rattle.types.specs.declared.int_type.IntType.{IntType}
 use Rattle.types.specs.Kind as kind
-use Rattle.types.specs.Kind.{Kind, bits_of, bytes_of}
+use Rattle.types.specs.Prelude.{Kind, bits_of, bytes_of, is_negative, most_of, natural, number_at, offset_type, size_of}
 use Rattle.types.specs.declared.offset_width.OffsetWidth.{OffsetWidth}
 use Rattle.types.specs.declared.offset_width.OffsetWidth.TheVariants.{Narrow, Wide}
-use Rattle.types.specs.OffsetSize.{most_of, offset_type, size_of}
-use Rattle.types.specs.Number.{number_at, natural, is_negative}
 use Rattle.types.proofs.ByteLemmas.{offset_at-empty}
 use Rattle.types.proofs.RangeLemmas.{short_at}
-use Rattle.layout.specs.Layout.{Buffers, bytes_at, offset_at}
-use Rattle.layout.specs.Fault.{Inner, are_offsets_short, child_length}
-use Rattle.layout.specs.Offsets.{AreBytesOf, AreOffsets, length_at, length_of, of_slot, offsets_in, slot_at, start_at, start_of}
+use Rattle.layout.specs.Prelude.{AreBytesOf, AreOffsets, Buffers, Inner, are_offsets_short, bytes_at, child_length, length_at, length_of, of_slot, offset_at, offsets_in, slot_at, start_at, start_of}
 use Rattle.layout.proofs.FirstFaultLemmas.{IsWhole}
 use Rattle.layout.proofs.RangeLists.{map-range-below}
 use Rattle.layout.proofs.OffsetLemmas.{rises_by, start-rises, text_ends, list_ends}

@@ -8,12 +8,9 @@ use Rattle.std.proofs.lemmas.List.Sums.{sum_by-cons}
 use Rattle.std.proofs.lemmas.Bool.{ltb-false}
 use Rattle.std.proofs.Math.Bool.{and-false}
 use Rattle.std.proofs.lemmas.Str.{IsUtf8-from_is_utf8, is_utf8-from_IsUtf8, IsUtf8-nil, IsUtf8-between}
-use Rattle.colbits.specs.Bit.{bit, bits}
-use Rattle.colbits.specs.Slice.{slice}
+use Rattle.colbits.specs.Prelude.{bit, bits, slice}
 use Rattle.types.specs.declared.offset_width.OffsetWidth.{OffsetWidth}
-use Rattle.layout.specs.Layout.{Buffers, buffer_at, bytes_at, is_valid, is_valid_in}
-use Rattle.layout.specs.Offsets.{slot_at, start_at}
-use Rattle.layout.specs.Fault.{is_no_text, least_row, null_count}
+use Rattle.layout.specs.Prelude.{Buffers, buffer_at, bytes_at, is_no_text, is_valid, is_valid_in, least_row, null_count, slot_at, start_at}
 
 -- every row from a on that is below n fails
 abbrev pub AllFail : (ℕ → Bool) → ℕ → ℕ → Type 0

@@ -2,19 +2,13 @@
 use Rattle.std.proofs.Common.{◌≡◌, ◌∙◌, ℕ, ◌+◌, ◌-◌, ◌≤◌, List, map, Bool, length, take, drop, Option, Some, None, option_map, IfSome, [], ltb-false, ap, refl, arith, length-take, length-drop}
 use Rattle.std.proofs.lemmas.List.{drop-take, drop-drop, take-take, take_all}
 use Rattle.std.proofs.lemmas.List.FromFn.{length-map-range_with_len}
-use Rattle.colbits.specs.Bit.{bits}
-use Rattle.colbits.specs.Slice.{slice}
+use Rattle.colbits.specs.Prelude.{bits, slice}
 use Rattle.colbits.proofs.BitLemmas.{length-bits}
-use Rattle.layout.specs.Item.{Item}
+use Rattle.layout.specs.Prelude.{Buffers, Inner, Item, Reading, Seen, buffer_at, codes, column, inner_of, own_fault, part, read_parts, validity_of}
 use Rattle.types.specs.Kind as kind
-use Rattle.types.specs.Kind.{Kind, int32}
-use Rattle.layout.specs.Layout.{Buffers, column, codes, validity_of, buffer_at}
+use Rattle.types.specs.Prelude.{Kind, int32, most_slots}
 use Rattle.layout.specs.declared.fault.LayoutFault.TheVariants.{TooLong}
 use Rattle.types.proofs.FirstLemmas.{first-none, then_some-none}
-use Rattle.layout.specs.Fault.{Inner, own_fault}
-use Rattle.layout.specs.Seen.{Seen, part}
-use Rattle.layout.specs.Reading.{Reading, read_parts, inner_of}
-use Rattle.types.specs.Limits.{most_slots}
 
 pub length-column : (k : Kind) (n : ℕ) (buffers : Buffers) (child entries : List Item) → length (column k n buffers child entries) ≡ n
 unfolding column

@@ -3,16 +3,12 @@ use Rattle.std.specs.Prelude.{ℕ, ◌+◌, ◌-◌, ◌*◌, ◌/◌, ◌&&◌,
 use Rattle.std.specs.List.{range_with_len, list_any}
 use Rattle.std.specs.Str.{is_utf8}
 use Rattle.std.specs.Bool.{then_some}
-use Rattle.types.specs.First.{first}
+use Rattle.types.specs.Prelude.{Kind, boolean, bytes_of, depth, dict, first, int, is_negative, lists, most_slots, same_kind, size_of, texts, utf8}
 use Rattle.types.specs.declared.offset_width.OffsetWidth.{OffsetWidth}
-use Rattle.types.specs.Kind.{Kind, int, boolean, texts, utf8, lists, dict, bytes_of, depth, same_kind}
-use Rattle.types.specs.OffsetSize.{size_of}
-use Rattle.types.specs.Number.{is_negative}
 use Rattle.layout.specs.Layout.{Buffers, buffer_at, bytes_at, is_valid, offset_at, code_at}
 use Rattle.layout.specs.Offsets.{slot_at, start_at}
 use Rattle.layout.specs.declared.fault.LayoutFault.{LayoutFault}
 use Rattle.layout.specs.declared.fault.LayoutFault.TheVariants.{MissingBuffer, ExtraBuffer, BufferTooShort, OffsetNegative, OffsetDecreases, OffsetPastEnd, NullCountDiffers, NotUtf8, IndexPastDictionary, ChildDiffers, TooLong, TooDeep}
-use Rattle.types.specs.Limits.{most_slots}
 
 -- What an array knows of its child and of its dictionary.
 pub record Inner : Type 0 where

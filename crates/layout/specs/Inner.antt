@@ -3,8 +3,7 @@ use Rattle.std.specs.Prelude.{◌≡◌, ℕ, ◌+◌, ◌*◌, ◌<◌, List, l
 use Rattle.std.specs.declared.boxed.Box.{Box}
 use Rattle.std.specs.declared.alloc.Global.{Global}
 use Rattle.types.specs.declared.offset_width.OffsetWidth.{OffsetWidth}
-use Rattle.types.specs.Kind.{kind_of}
-use Rattle.types.specs.OffsetSize.{size_of}
+use Rattle.types.specs.Prelude.{kind_of, size_of}
 use Rattle.layout.specs.Fault.{Inner, content_faults, own_fault, shape_faults}
 use Rattle.layout.specs.declared.fault.LayoutFault.{LayoutFault}
 use Rattle.layout.specs.declared.raw.RawArray.{RawArray, out-RawArray}

@@ -3,9 +3,7 @@ use Rattle.std.specs.Prelude.{ℕ, ℤ, List, [], map, Bool, true, if◌then◌e
 use Rattle.std.specs.List.{range_with_len}
 use Rattle.colbits.specs.Bit.{bit, bits}
 use Rattle.types.specs.declared.offset_width.OffsetWidth.{OffsetWidth}
-use Rattle.types.specs.Kind.{Kind, int, boolean, texts, lists, dict, int32}
-use Rattle.types.specs.OffsetSize.{offset_type}
-use Rattle.types.specs.Number.{natural, number_at}
+use Rattle.types.specs.Prelude.{Kind, boolean, dict, int, int32, lists, natural, number_at, offset_type, texts}
 use Rattle.layout.specs.Offsets.{slot_at}
 use Rattle.layout.specs.Item as item
 use Rattle.layout.specs.Item.{Item}

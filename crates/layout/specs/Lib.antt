@@ -9,3 +9,4 @@ pub mod Checked
 pub mod Offsets
 pub mod Inner
 pub mod SeenCode
+pub mod Prelude

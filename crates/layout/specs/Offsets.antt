@@ -3,8 +3,7 @@ use Rattle.std.specs.Prelude.{◌≡◌, ℕ, ◌+◌, ◌-◌, ◌*◌, ◌<◌
 use Rattle.std.specs.List.{range_with_len}
 use Rattle.colbits.specs.Slice.{slice}
 use Rattle.types.specs.declared.offset_width.OffsetWidth.{OffsetWidth}
-use Rattle.types.specs.OffsetSize.{offset_type, size_of}
-use Rattle.types.specs.Number.{natural, number_at, is_negative}
+use Rattle.types.specs.Prelude.{is_negative, natural, number_at, offset_type, size_of}
 
 -- ---- as numbers
 

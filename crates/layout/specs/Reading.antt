@@ -1,9 +1,8 @@
 -- What the parts of an array are: the first fault of it, its child and its dictionary, and what it shows.
 use Rattle.std.specs.Prelude.{ℕ, List, [], ◌∷◌, map, Option, Some, None, option_map}
-use Rattle.types.specs.Kind.{Kind, dict, kind_of}
+use Rattle.types.specs.Prelude.{Kind, dict, first, kind_of}
 use Rattle.layout.specs.Item.{Item}
 use Rattle.layout.specs.Layout.{Buffers, column, codes, validity_of}
-use Rattle.types.specs.First.{first}
 use Rattle.layout.specs.Fault.{Inner, own_fault}
 use Rattle.layout.specs.Seen.{Seen, Entries, no_entries}
 use Rattle.layout.specs.declared.fault.LayoutFault.{LayoutFault}

@@ -2,8 +2,7 @@
 use Rattle.std.specs.Prelude.{◌≡◌, ℕ, zero, suc, ℤ, Option, List, [], ◌∷◌, ◌++◌, Bool, refl}
 use Rattle.std.specs.Coded.{Coded, code_by, coded_ℕ, coded_ℤ, coded_bool, coded_list, coded_option, coded×, coded⊎}
 use Rattle.std.proofs.Common.{◌⊎◌, inl, inr, ap, ◌∙◌}
-use Rattle.types.specs.FieldCode.{kind_code}
-use Rattle.types.specs.Kind.{Kind}
+use Rattle.types.specs.Prelude.{Kind, kind_code}
 use Rattle.layout.specs.Item.{Item, Items, null, int, boolean, text, list, none, more}
 use Rattle.layout.specs.Seen.{Seen, Entries}
 

@@ -2,13 +2,11 @@
 
 ghost use Rattle.std.specs.Prelude.{◌≡◌, ◌+◌, ◌<◌};
 ghost use Rattle.std.specs.Option.{option_copied};
-ghost use Rattle.colbits.specs.Bit.{bit};
-ghost use Rattle.colbits.specs.Slice.{slice};
+ghost use Rattle.colbits.specs.Prelude.{bit, slice};
 ghost use Rattle.layout.specs.Inner.{HasOffsets};
 ghost use Rattle.layout.specs.Layout.{bytes_at, buffer_at, is_valid};
 ghost use Rattle.layout.specs.Offsets.{slot_at, start_at};
-ghost use Rattle.types.specs.Number.{number_at};
-ghost use Rattle.types.specs.OffsetSize.{offset_type};
+ghost use Rattle.types.specs.Prelude.{number_at, offset_type};
 
 use colbits::Buffer;
 use types::OffsetWidth;

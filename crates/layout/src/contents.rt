@@ -5,11 +5,9 @@ ghost use Rattle.std.specs.Prelude.{◌≡◌, ℕ, ◌+◌, ◌*◌, ◌<◌, �
 ghost use Rattle.std.specs.List.{count_by, list_any, range_with_len};
 ghost use Rattle.colbits.specs.Bit.{bit};
 ghost use Rattle.layout.specs.Inner.{HasOffsets, inner_children, inner_dictionary};
-ghost use Rattle.types.specs.Kind.{kind_of};
+ghost use Rattle.types.specs.Prelude.{is_negative, kind_of, number_at, offset_type};
 ghost use Rattle.layout.specs.Fault.{bad_code_row, bad_text_row, decreasing_row, does_count_differ, has_negative_offset, is_data_short, is_no_code, is_no_text, is_past_end, is_validity_short, least_row, null_count};
 ghost use Rattle.layout.specs.Offsets.{slot_at};
-ghost use Rattle.types.specs.Number.{is_negative, number_at};
-ghost use Rattle.types.specs.OffsetSize.{offset_type};
 ghost use Rattle.std.specs.Str.{is_utf8};
 ghost use Rattle.layout.specs.Layout.{buffer_at, bytes_at};
 

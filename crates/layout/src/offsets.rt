@@ -1,9 +1,7 @@
 //! Offsets of texts and lists, as numbers.
 
 ghost use Rattle.std.specs.Prelude.{◌≡◌, ◌+◌, ◌<◌, ◌≤◌, ℕ, false, length};
-ghost use Rattle.types.specs.Limits.{most_slots};
-ghost use Rattle.types.specs.Number.{is_negative, number_at};
-ghost use Rattle.types.specs.OffsetSize.{most_of, offset_type};
+ghost use Rattle.types.specs.Prelude.{is_negative, most_of, most_slots, number_at, offset_type};
 ghost use Rattle.layout.specs.Fault.{are_offsets_short};
 ghost use Rattle.layout.specs.Offsets.{AreBytesOf, offsets_in, start_of};
 
@@ -22,8 +20,7 @@ pub struct Offsets<'a> {
 
 impl<'a> Model for Offsets<'a> {
     ghost use Rattle.std.specs.Prelude.{◌≡◌, ◌+◌, ◌*◌, ◌≤◌, ℕ, List, false, length};
-    ghost use Rattle.types.specs.Number.{is_negative, number_at};
-    ghost use Rattle.types.specs.OffsetSize.{offset_type, size_of};
+    ghost use Rattle.types.specs.Prelude.{is_negative, number_at, offset_type, size_of};
     ghost use Rattle.layout.specs.Offsets.{offsets_in};
 
     ghost Value = { List ℕ };

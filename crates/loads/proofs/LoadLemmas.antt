@@ -10,25 +10,14 @@ use Rattle.std.proofs.lemmas.List.Elements.{All-append, All-push, filter-append}
 use Rattle.std.proofs.lemmas.Option.{slice_get-get_or, slice_get-map}
 use Rattle.std.proofs.Math.Seq.{take-length}
 use Rattle.std.proofs.lemmas.List.Sums.{sum_by-append}
-use Rattle.arrays.specs.Batch.{Batch, Table, rows_of}
-use Rattle.arrays.specs.File.{File}
-use Rattle.arrays.specs.First.{first}
-use Rattle.arrays.specs.Shape.{FieldShape}
+use Rattle.arrays.specs.Prelude.{Batch, FieldShape, File, Table, first, rows_of}
 use mathlib.Core.List.{IsPrefix}
 use Rattle.shared.proofs.PrefixLemmas.{prefix_length, prefix_trans}
-use Rattle.shared.specs.Hand.{Hand, HasAdded, HasSeen, HasAddedNothing, IsLeft, calls_of_hand, rows_of_hand}
-use Rattle.shared.specs.Known.{IsBeginning, IsLegalKnown, Known}
-use Rattle.shared.specs.Left.{Left}
+use Rattle.shared.specs.Prelude.{Hand, HasAdded, HasAddedNothing, HasSeen, History, IsBeginning, IsLeft, IsLegal, IsLegalKnown, IsTableOf, Known, Left, Refusal, SchemaDiffers, calls_of_hand, cause, difference, rows, rows_of_hand, widened}
 use Rattle.shared.proofs.SeenLemmas.{added_raised}
 use Rattle.shared.proofs.KnownLemmas.{begins_self, begins_trans, last_typed, wide_again}
-use Rattle.shared.specs.Cause.{IsLegal, IsTableOf, cause, difference}
-use Rattle.shared.specs.History.{History, rows}
-use Rattle.shared.specs.Widened.{widened}
 use Rattle.shared.proofs.WidenedLemmas.{widened-again, widened-append}
-use Rattle.shared.specs.Refusal.{Refusal}
-use Rattle.shared.specs.Refusals.{SchemaDiffers}
-use Rattle.loads.specs.Loaded.{HasLast, IsIdle, IsNewest, IsStoppedAt, Loaded, StandsFor, batches_of_files, pairs_of}
-use Rattle.loads.specs.Plan.{planned}
+use Rattle.loads.specs.Prelude.{HasLast, IsIdle, IsNewest, IsStoppedAt, Loaded, StandsFor, batches_of_files, pairs_of, planned}
 
 -- ---- answers
 

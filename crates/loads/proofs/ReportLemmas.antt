@@ -4,10 +4,8 @@ use Rattle.std.specs.Prelude.{if◌then◌else◌, is_ok}
 use Rattle.std.specs.List.{Any, cons_option}
 use Rattle.std.proofs.lemmas.List.{append-nil, get_or_append_left, take_more}
 use Rattle.std.proofs.lemmas.List.Elements.{All-push, filter_map-append}
-use Rattle.shared.specs.Known.{Known}
-use Rattle.shared.specs.Left.{Left}
-use Rattle.loads.specs.Loaded.{Stop}
-use Rattle.loads.specs.Report.{IsLeastStopOf, IsWantOfMemory, last_receipts}
+use Rattle.shared.specs.Prelude.{Known, Left}
+use Rattle.loads.specs.Prelude.{IsLeastStopOf, IsWantOfMemory, Stop, last_receipts}
 
 -- ---- the least stop
 

@@ -5,13 +5,9 @@ use Rattle.std.proofs.lemmas.List.{get_or-map}
 use Rattle.std.proofs.lemmas.List.Elements.{AllZip-get_or}
 use Rattle.std.specs.Prelude.{is_some, unwrap_or}
 use Rattle.arrays.specs.Batch.{Batch}
-use Rattle.shared.specs.Hand.{Hand, IsLeft, calls_of_hand}
-use Rattle.shared.specs.Known.{Known}
-use Rattle.shared.specs.Left.{Left}
-use Rattle.shared.specs.History.{History}
+use Rattle.shared.specs.Prelude.{Hand, History, IsLeft, Known, Left, calls_of_hand}
 use Rattle.loads.proofs.LoadLemmas.{loaded_left}
-use Rattle.loads.specs.Loaded.{AllLoaded, AreRun, HasLast, IsLoadedBy, IsNewest, IsRun, IsStoppedAt, Loaded, before_stop, outcome_of}
-use Rattle.loads.specs.Report.{AllFinished, AreNewest, last_receipts, seen_by_worker}
+use Rattle.loads.specs.Prelude.{AllFinished, AllLoaded, AreNewest, AreRun, HasLast, IsLoadedBy, IsNewest, IsRun, IsStoppedAt, Loaded, before_stop, last_receipts, outcome_of, seen_by_worker}
 
 -- what is left with it afterwards doesn't count
 pub run_left : (files : List (List Batch)) (workers place : ℕ) (old mid new : Hand) (o : Left) (p : Option Left) → IsRun files workers place old mid o → IsLeft p mid new

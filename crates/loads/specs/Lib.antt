@@ -1,3 +1,4 @@
 pub mod Plan
 pub mod Loaded
 pub mod Report
+pub mod Prelude

@@ -1,16 +1,7 @@
 -- How far workers come through their files.
 use Rattle.std.specs.Prelude.{◌≡◌, ◌⊎◌, ℕ, ◌%◌, ◌<◌, ◌++◌, IfSome, List, [], ◌∷◌, length, map, slice_get, slice_index_or, take, Option, None, Some, is_some, nat_lt, unwrap_or}
-use Rattle.arrays.specs.Batch.{Batch, rows_of}
-use Rattle.arrays.specs.File.{File}
-use Rattle.arrays.specs.Shape.{FieldShape}
-use Rattle.shared.specs.Hand.{Hand, HasAdded, calls_of_hand, rows_of_hand}
-use Rattle.shared.specs.Known.{IsBeginning, Known}
-use Rattle.shared.specs.Left.{Left}
-use Rattle.shared.specs.Cause.{batch_cause}
-use Rattle.shared.specs.History.{History}
-use Rattle.shared.specs.Stored.{stored_fields}
-use Rattle.shared.specs.Widened.{widened}
-use Rattle.shared.specs.Refusal.{Refusal}
+use Rattle.arrays.specs.Prelude.{Batch, FieldShape, File, rows_of}
+use Rattle.shared.specs.Prelude.{Hand, HasAdded, History, IsBeginning, Known, Left, Refusal, batch_cause, calls_of_hand, rows_of_hand, stored_fields, widened}
 use Rattle.shared.specs.Refusals.{NoMemory}
 use Rattle.loads.specs.Plan.{planned}
 

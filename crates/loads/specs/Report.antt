@@ -2,9 +2,7 @@
 use Rattle.std.specs.Prelude.{◌≡◌, ◌≢◌, ◌⊎◌, ◌≤◌, All, IfSome, List, Option, None, Some, nat_lt, if◌then◌else◌}
 use Rattle.std.specs.List.{Any, filter_map, zip}
 use Rattle.arrays.specs.Batch.{Batch}
-use Rattle.shared.specs.Hand.{Hand, calls_of_hand}
-use Rattle.shared.specs.Known.{Known}
-use Rattle.shared.specs.Left.{Left}
+use Rattle.shared.specs.Prelude.{Hand, Known, Left, calls_of_hand}
 use Rattle.shared.specs.Refusals as refusal
 use Rattle.loads.specs.Loaded.{AreRun, Stop}
 use Rattle.loads.specs.declared.fault.LoadFault.{LoadFault}

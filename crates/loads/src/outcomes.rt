@@ -4,8 +4,7 @@ ghost use Rattle.std.specs.Prelude.{◌≡◌, ◌≢◌, ◌+◌, ◌≤◌, �
 ghost use Rattle.std.specs.List.{AllZip, Any};
 ghost use Rattle.loads.specs.Loaded.{outcome_of};
 ghost use Rattle.loads.specs.Report.{AllFinished, IsLeastStopOf, IsReport, last_receipts};
-ghost use Rattle.shared.specs.Hand.{IsLeft};
-ghost use Rattle.shared.specs.Left.{Left};
+ghost use Rattle.shared.specs.Prelude.{IsLeft, Left};
 
 use crate::fault::LoadFault;
 use shared::{Naming, Outcome, Receipt, Refusal, Worker};

@@ -1,11 +1,7 @@
 -- The slots of a dictionary-encoded view, by its codes.
 use Rattle.std.proofs.Common.{◌≡◌, ◌∙◌, ℕ, ◌<◌, Bool, true, false, List, length, Option, Some, refl, sym, ap, pos}
 use Rattle.std.specs.Prelude.{slice_get}
-use Rattle.arrays.specs.Dictionary.{codes_of, looked_up}
-use Rattle.arrays.specs.Item.{int, null}
-use Rattle.arrays.specs.Kind.{int32}
-use Rattle.arrays.specs.Number.{natural, number_at}
-use Rattle.arrays.specs.Seen.{Seen, valid_in}
+use Rattle.arrays.specs.Prelude.{Seen, codes_of, int, int32, looked_up, natural, null, number_at, valid_in}
 use Rattle.arrays.proofs.DictionaryViews.{ValidCode, codes_slots, named_item, null_code, valid_code}
 use Rattle.pool.specs.CodedViews.{HasCodes}
 

@@ -1,11 +1,9 @@
 -- A column of the first texts of a pool.
 use Rattle.std.proofs.Common.{◌≡◌, ◌∙◌, ℕ, List, false, map, take, ap, le-ltb}
-use Rattle.arrays.specs.Item.{Item, text}
-use Rattle.arrays.specs.Lengths.{is_past, text_bytes}
+use Rattle.arrays.specs.Prelude.{Item, is_past, most_slots, text, text_bytes}
 use Rattle.pool.specs.Texts.{byte_count, is_too_full}
 use Rattle.pool.proofs.TextLemmas.{fits_from, is_too_full-take}
 use Rattle.pool.proofs.UnifyLemmas.{text_bytes-map}
-use Rattle.arrays.specs.Limits.{most_slots}
 
 -- its bytes fit where those of all texts do
 pub front_fits : (pool : List (List ℕ)) (items : List Item) (n : ℕ) → items ≡ map text (take n pool) → is_too_full pool ≡ false → is_past (text_bytes items) ≡ false

@@ -6,11 +6,8 @@ use Rattle.std.proofs.lemmas.Bool.{eqb-true, eqb-false}
 use Rattle.std.proofs.lemmas.Cmp.{nat_list_eq_equiv}
 use Rattle.std.proofs.lemmas.List.{get_or-set_same, get_or-set_other}
 use Rattle.std.proofs.lemmas.List.Folds.{list_any-append}
-use Rattle.arrays.specs.Slot.{item_of}
-use Rattle.arrays.specs.Item.{Item, int, null, text}
-use Rattle.pool.specs.Codes.{code_item}
-use Rattle.pool.specs.Places.{AreKnown, IsKnown, IsPlaced, with_item}
-use Rattle.pool.specs.Texts.{is_among, is_too_full, place_of, with_text}
+use Rattle.arrays.specs.Prelude.{Item, int, item_of, null, text}
+use Rattle.pool.specs.Prelude.{AreKnown, IsKnown, IsPlaced, code_item, is_among, is_too_full, place_of, with_item, with_text}
 use Rattle.pool.proofs.TextLemmas.{either, fits_from}
 use Rattle.pool.proofs.PlaceLemmas.{among_found, among_place, position_found, position-append, with_text-new}
 

@@ -6,11 +6,10 @@ use Rattle.std.specs.Str.{bytes_eq}
 use Rattle.std.specs.String.{string_bytes, string_eq}
 use Rattle.std.proofs.lemmas.List.{take-map, map-append, take_rest}
 use Rattle.std.proofs.lemmas.List.Sums.{sum_by-cons, sum_by-take-drop, sum_by_push}
-use Rattle.pool.specs.Texts.{is_among, is_once, is_too_full, byte_count}
-use Rattle.pool.specs.Pool.{IsPool}
+use Rattle.pool.specs.Prelude.{IsPool, byte_count, is_among, is_once, is_too_full}
 use Rattle.pool.proofs.TextLemmas.{is_once-push, is_once-take, fits_from, fits_to, is_too_full-take}
 use Rattle.pool.proofs.PlaceLemmas.{list_any-map}
-use Rattle.arrays.specs.Limits.{most_slots}
+use Rattle.arrays.specs.Prelude.{most_slots}
 
 pub map-take : {X Y : Type 0} (f : X → Y) (n : ℕ) (xs : List X) → map f (take n xs) ≡ take n (map f xs)
 map-take f n xs = sym (take-map f n xs)

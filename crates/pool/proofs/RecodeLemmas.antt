@@ -8,13 +8,8 @@ use Rattle.pool.specs.declared.fault.PoolFault.TheVariants.{TextsFull, NoMemory}
 use Rattle.std.proofs.lemmas.List.{append-nil, map-append, take-append-drop, take_more}
 use Rattle.std.proofs.lemmas.List.Elements.{filter_map-append}
 use Rattle.std.proofs.lemmas.Option.{slice_get_within, get_or_from_slice_get}
-use Rattle.arrays.specs.Item.{Item, text}
-use Rattle.arrays.specs.Column.{Column}
-use Rattle.arrays.specs.Slot.{item_of}
-use Rattle.arrays.specs.Kind.{int32}
-use Rattle.pool.specs.Texts.{text_of, texts_of, firsts, is_once, with_text, is_too_full}
-use Rattle.pool.specs.Codes.{code_item}
-use Rattle.pool.specs.Places.{IsPlaced, with_item}
+use Rattle.arrays.specs.Prelude.{Column, Item, int32, item_of, text}
+use Rattle.pool.specs.Prelude.{IsPlaced, code_item, firsts, is_once, is_too_full, text_of, texts_of, with_item, with_text}
 use Rattle.pool.proofs.TextLemmas.{beyond, firsts-append, firsts-push, firsts-once, is_too_full-append}
 use Rattle.pool.proofs.PlacingLemmas.{code-append}
 

@@ -10,7 +10,7 @@ use Rattle.std.proofs.lemmas.List.Folds.{list_any-append}
 use Rattle.std.proofs.lemmas.List.Sums.{sum_by-append}
 use Rattle.std.proofs.lemmas.List.{append-nil, take-append-drop}
 use Rattle.pool.specs.Texts.{firsts, is_among, is_once, with_text, byte_count, is_too_full}
-use Rattle.arrays.specs.Limits.{most_slots}
+use Rattle.arrays.specs.Prelude.{most_slots}
 
 -- A test goes one way or the other.
 pub either : {C : Type 0} (b : Bool) → (b ≡ true → C) → (b ≡ false → C) → C

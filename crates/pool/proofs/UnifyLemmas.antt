@@ -10,18 +10,11 @@ use Rattle.std.proofs.lemmas.List.{append-nil, map-append, take-append-drop, tak
 use Rattle.std.proofs.lemmas.List.Elements.{filter_map-append}
 use Rattle.std.proofs.lemmas.List.Folds.{fold-map, list_any-append}
 use Rattle.std.proofs.lemmas.Option.{slice_get_within, get_or_from_slice_get, slice_get-get_or}
-use Rattle.arrays.specs.Slot.{item_of, item_of_text}
-use Rattle.arrays.specs.Item.{Item, null, text}
-use Rattle.arrays.specs.Kind.{int, int32}
-use Rattle.arrays.specs.Lengths.{is_past, joined_items, text_bytes, text_length}
-use Rattle.arrays.specs.Seen.{Seen}
-use Rattle.arrays.specs.Shown.{shown}
-use Rattle.pool.specs.Codes.{code_item}
-use Rattle.pool.specs.Texts.{text_of, texts_of, firsts, is_among, is_too_full, byte_count}
-use Rattle.pool.specs.Unified.{all_texts, codes_among}
+use Rattle.arrays.specs.Prelude.{Item, Seen, int32, is_past, item_of, item_of_text, joined_items, most_slots, null, shown, text, text_bytes, text_length}
+use Rattle.arrays.specs.Kind.{int}
+use Rattle.pool.specs.Prelude.{all_texts, byte_count, code_item, codes_among, firsts, is_among, is_too_full, text_of, texts_of}
 use Rattle.pool.proofs.PlaceLemmas.{position-append, among_place}
 use Rattle.pool.proofs.TextLemmas.{beyond, firsts-append, firsts-once, is_once-firsts, is_among-firsts, is_too_full-append, is_too_full-take, fits_from}
-use Rattle.arrays.specs.Limits.{most_slots}
 
 or-right : (a b : Bool) → b ≡ true → (a || b) ≡ true
 or-right true b h = refl

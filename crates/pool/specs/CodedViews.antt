@@ -1,9 +1,6 @@
 -- A dictionary-encoded view by its codes.
 use Rattle.std.specs.Prelude.{◌≡◌, ℕ, Bool, List, Option, All, length, true}
-use Rattle.arrays.specs.Dictionary.{codes_of, dictionary_of, encoded, is_code}
-use Rattle.arrays.specs.Kind.{int32}
-use Rattle.arrays.specs.Seen.{Seen}
-use Rattle.arrays.specs.Values.{HasNumbers}
+use Rattle.arrays.specs.Prelude.{HasNumbers, Seen, codes_of, dictionary_of, encoded, int32, is_code}
 
 -- The bytes have the view's codes, this is its validity, and each code names the entry that the slot shows.
 pub record HasCodes (bytes : List ℕ) (validity : Option (List Bool)) (s : Seen) : Type 0 where

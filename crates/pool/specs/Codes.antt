@@ -1,7 +1,6 @@
 -- The codes of items among texts.
 use Rattle.std.specs.Prelude.{ℕ, pos, List, option_map}
-use Rattle.arrays.specs.Slot.{item_of}
-use Rattle.arrays.specs.Item.{Item, text, null}
+use Rattle.arrays.specs.Prelude.{Item, item_of, null, text}
 use Rattle.pool.specs.Texts.{place_of}
 
 -- The place of a text among the texts, and null for what is no text.

@@ -1,9 +1,7 @@
 -- A column of the first texts of a pool.
 use Rattle.std.specs.Prelude.{◌≡◌, ℕ, List, length, map, take}
-use Rattle.arrays.specs.Item.{text}
+use Rattle.arrays.specs.Prelude.{Seen, shown, text}
 use Rattle.arrays.specs.Kind as kind
-use Rattle.arrays.specs.Seen.{Seen}
-use Rattle.arrays.specs.Shown.{shown}
 
 -- It has the first of the texts, and nothing else.
 abbrev pub IsFront : List (List ℕ) → Seen → Type 0

@@ -5,3 +5,4 @@ pub mod Places
 pub mod CodedViews
 pub mod Unified
 pub mod Front
+pub mod Prelude

@@ -1,10 +1,8 @@
 -- The places of items among the texts of a pool.
 use Rattle.std.specs.Prelude.{◌≡◌, ◌<◌, ℕ, pos, List, Option, Some, None, IfSome, option_map, slice_index_or, ⊤}
-use Rattle.arrays.specs.Slot.{item_of}
-use Rattle.arrays.specs.Item.{Item, int, null, text}
+use Rattle.arrays.specs.Prelude.{Item, int, item_of, most_slots, null, text}
 use Rattle.pool.specs.Codes.{code_item}
 use Rattle.pool.specs.Texts.{with_text}
-use Rattle.arrays.specs.Limits.{most_slots}
 
 -- The texts with that of the item, if it is one, at the end, unless it is among them.
 abbrev pub with_item : List (List ℕ) → Item → List (List ℕ)

@@ -2,10 +2,9 @@
 use Rattle.std.specs.Prelude.{◌≡◌, ◌⊎◌, ℕ, Bool, true, false, not, ◌||◌, ◌&&◌, nat_lt, List, [], ◌∷◌, ◌++◌, length, filter, filter_map, sum_by, position, Option, Some, None, if◌then◌else◌}
 use Rattle.std.specs.List.{list_any}
 use Rattle.std.specs.Str.{bytes_eq}
-use Rattle.arrays.specs.Item.{Item, text}
+use Rattle.arrays.specs.Prelude.{Item, most_slots, text}
 use Rattle.pool.specs.declared.fault.PoolFault.{PoolFault}
 use Rattle.pool.specs.declared.fault.PoolFault.TheVariants.{NoMemory, TextsFull}
-use Rattle.arrays.specs.Limits.{most_slots}
 
 -- The bytes of a text, none of an item that is no text.
 abbrev pub text_of : Item → Option (List ℕ)

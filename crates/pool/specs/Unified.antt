@@ -1,9 +1,7 @@
 -- Columns of texts brought to one dictionary.
 use Rattle.std.specs.Prelude.{ℕ, List, map}
-use Rattle.arrays.specs.Kind.{int, int32}
-use Rattle.arrays.specs.Seen.{Seen}
-use Rattle.arrays.specs.Shown.{shown}
-use Rattle.arrays.specs.Lengths.{joined_items}
+use Rattle.arrays.specs.Kind.{int}
+use Rattle.arrays.specs.Prelude.{Seen, int32, joined_items, shown}
 use Rattle.pool.specs.Texts.{firsts, texts_of}
 use Rattle.pool.specs.Codes.{code_item}
 

@@ -1,8 +1,7 @@
 //! Dictionary-encoded views, whose codes are found once.
 
 ghost use Rattle.std.specs.Prelude.{◌≡◌, ◌<◌, IfSome, Some, length, option_map, pos, slice_get};
-ghost use Rattle.arrays.specs.Dictionary.{looked_up};
-ghost use Rattle.arrays.specs.Slot.{item_of};
+ghost use Rattle.arrays.specs.Prelude.{item_of, looked_up};
 
 use arrays::validity::is_valid;
 use arrays::{Bits, INT32, View, ViewType, natural_at};
@@ -17,8 +16,7 @@ pub(crate) struct CodedView<'a, 'b> {
 }
 
 impl<'a, 'b> Model for CodedView<'a, 'b> {
-    ghost use Rattle.arrays.specs.Seen.{Seen};
-    ghost use Rattle.arrays.specs.SeenCode.{seen_code};
+    ghost use Rattle.arrays.specs.Prelude.{Seen, seen_code};
     ghost use Rattle.pool.specs.CodedViews.{HasCodes};
 
     ghost Value = { Seen };

@@ -1,9 +1,7 @@
 //! The place in a pool of a row's text, by what is remembered of a dictionary's entries.
 
 ghost use Rattle.std.specs.Prelude.{◌≡◌, ◌<◌, ℕ, List, false, true, length, slice_index_or, IfErr, IfOk, IfSome, OnErr, OnOk};
-ghost use Rattle.arrays.specs.Item.{null};
-ghost use Rattle.arrays.specs.Seen.{Seen};
-ghost use Rattle.arrays.specs.Slot.{is_text};
+ghost use Rattle.arrays.specs.Prelude.{Seen, is_text, null};
 ghost use Rattle.pool.specs.Places.{AreKnown, IsPlaced, with_item};
 ghost use Rattle.pool.specs.Texts.{IsPoolFault, is_too_full};
 

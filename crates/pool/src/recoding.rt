@@ -3,9 +3,7 @@
 ghost use Rattle.std.specs.Prelude.{◌≡◌, ◌⊎◌, ◌++◌, false, true, map, OnOk, IfOk, IfErr, OnErr};
 ghost use mathlib.Core.List.{IsPrefix};
 ghost use Rattle.arrays.specs.Kind as kind;
-ghost use Rattle.arrays.specs.Kind.{int32};
-ghost use Rattle.arrays.specs.Shown.{shown};
-ghost use Rattle.arrays.specs.Slot.{is_recodable, is_text};
+ghost use Rattle.arrays.specs.Prelude.{int32, is_recodable, is_text, shown};
 ghost use Rattle.pool.specs.Codes.{code_item};
 ghost use Rattle.pool.specs.Texts.{firsts, texts_of, is_once, is_too_full};
 

@@ -2,10 +2,9 @@ ghost use Rattle.std.specs.Prelude.{◌≡◌, ◌<◌, ◌≤◌, ◌==◌, ◌
 ghost use Rattle.std.specs.String.{string_bytes};
 ghost use Rattle.arrays.specs.Item as item;
 ghost use Rattle.arrays.specs.Kind as kind;
-ghost use Rattle.arrays.specs.Shown.{shown};
+ghost use Rattle.arrays.specs.Prelude.{most_slots, shown};
 ghost use Rattle.pool.specs.Front.{IsFront};
 ghost use Rattle.pool.specs.Texts.{IsPoolFault, is_among, is_once, is_too_full, place_of, with_text};
-ghost use Rattle.arrays.specs.Limits.{most_slots};
 ghost use Rattle.arrays.specs.OffsetWidths as OffsetWidth;
 
 use crate::fault::PoolFault;

@@ -3,8 +3,7 @@
 ghost use Rattle.std.specs.Prelude.{◌≡◌, ◌⊎◌, false, true, map, All, IfOk, IfErr, OnOk};
 ghost use Rattle.arrays.specs.Item as item;
 ghost use Rattle.arrays.specs.Kind as kind;
-ghost use Rattle.arrays.specs.Shown.{shown};
-ghost use Rattle.arrays.specs.Slot.{is_recodable};
+ghost use Rattle.arrays.specs.Prelude.{is_recodable, shown};
 ghost use Rattle.pool.specs.Texts.{is_too_full};
 ghost use Rattle.pool.specs.Unified.{all_texts, codes_among};
 

@@ -7,8 +7,7 @@ use Rattle.query.specs.declared.expr.Op.{Op}
 use Rattle.query.specs.declared.fault.QueryFault.{QueryFault}
 use Rattle.query.specs.declared.fault.QueryFault.TheVariants.{WrongKind}
 use Rattle.query.specs.declared.sort.Sort.{Sort}
-use Rattle.query.specs.Checked.{and_then, checked, all_checked, sort_of_operator}
-use Rattle.query.specs.Tree.{tree_of, trees}
+use Rattle.query.specs.Prelude.{all_checked, and_then, checked, sort_of_operator, tree_of, trees}
 
 -- an operand without a fault adds none
 pub err-more : (rest : Result (List Sort) QueryFault) (s : Sort) → result_err (and_then rest (λ ss. Ok (s ∷ ss))) ≡ result_err rest

@@ -5,11 +5,9 @@ use Rattle.std.proofs.lemmas.List.{length-map}
 use Rattle.std.proofs.lemmas.Option.{slice_get-map, slice_get_past, slice_get_read}
 use Rattle.types.proofs.SchemaLemmas.{position-map}
 use Rattle.types.proofs.ShapeLemmas.{kind_of_field-field_of}
-use Rattle.types.specs.Kind.{kind_of}
-use Rattle.types.specs.Shape.{FieldShape, Shape, field_of, field_step, fields_of, name_of, shape_step}
+use Rattle.types.specs.Prelude.{FieldShape, Shape, field_of, field_step, fields_of, kind_of, name_of, shape_step}
 use Rattle.types.specs.declared.data_type.Field.{Field, fold_out-Field, out-Field}
-use Rattle.query.specs.CalledColumns.{has_name, place_of, sort_at, sort_of_field}
-use Rattle.query.specs.Sorts.{sort_of_kind}
+use Rattle.query.specs.Prelude.{has_name, place_of, sort_at, sort_of_field, sort_of_kind}
 use Rattle.query.specs.declared.fault.QueryFault.TheVariants.{NoColumn}
 
 pub name_of-field_of : (f : Field) → name_of (field_of f) ≡ string_bytes (out-Field f).name

@@ -2,21 +2,14 @@
 use Rattle.std.proofs.Common.{◌≡◌, ◌∙◌, ◌&&◌, ℕ, Bool, true, false, not, cond, nat_lt, List, [], ◌∷◌, map, Option, Some, None, Result, Ok, Err, ap, refl}
 use Rattle.std.specs.Prelude.{is_none, option_map}
 use Rattle.std.specs.Option.{ok_or}
-use Rattle.types.specs.First.{first}
-use Rattle.types.specs.Shape.{FieldShape}
+use Rattle.types.specs.Prelude.{FieldShape, first}
 use Rattle.types.proofs.FirstLemmas.{first-none}
 use Rattle.query.specs.declared.expr.Agg.{Agg}
 use Rattle.query.specs.declared.expr.Agg.TheVariants.{Rows, Count, Sum, Least, Greatest}
 use Rattle.query.specs.declared.fault.QueryFault.{QueryFault}
 use Rattle.query.specs.declared.fault.QueryFault.TheVariants.{WrongKind}
 use Rattle.query.specs.declared.sort.Sort.{Sort}
-use Rattle.query.specs.QueryShape.{QueryShape}
-use Rattle.query.specs.Checked.{and_then, checked, all_checked, sort_of_operator}
-use Rattle.query.specs.CalledColumns.{place_of, sort_at, sort_named}
-use Rattle.query.specs.FirstFault.{agg_fault, fault_unless, filter_fault, fits, is_too_deep, key_fault, query_fault}
-use Rattle.query.specs.Resolved.{renamed, renamed_agg, renamed_query}
-use Rattle.query.specs.Sorts.{is_int, is_plain, is_truth}
-use Rattle.query.specs.Tree.{Tree, column, int, text, op, Trees, none, one}
+use Rattle.query.specs.Prelude.{QueryShape, Tree, Trees, agg_fault, all_checked, and_then, checked, column, fault_unless, filter_fault, fits, int, is_int, is_plain, is_too_deep, is_truth, key_fault, none, one, op, place_of, query_fault, renamed, renamed_agg, renamed_query, sort_at, sort_named, sort_of_operator, text}
 use Rattle.query.proofs.ResolveLemmas.{checked-renamed, depth-renamed, renamed-renamed}
 
 -- ---- a query under other names

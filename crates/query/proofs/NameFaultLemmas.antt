@@ -8,21 +8,13 @@ use Rattle.std.proofs.lemmas.List.Folds.{list_any-append}
 use Rattle.std.proofs.lemmas.List.Sums.{sum_by-cons}
 use Rattle.std.proofs.lemmas.Option.{slice_get_cases}
 use Rattle.std.proofs.lemmas.Bool.{or_left, or_right}
-use Rattle.types.specs.First.{first}
-use Rattle.types.specs.Shape.{FieldShape}
+use Rattle.types.specs.Prelude.{FieldShape, first}
 use Rattle.query.specs.declared.expr.Agg.{Agg}
 use Rattle.query.specs.declared.expr.Agg.TheVariants.{Rows, Count, Sum, Least, Greatest}
 use Rattle.query.specs.declared.fault.QueryFault.{QueryFault}
 use Rattle.query.specs.declared.fault.QueryFault.TheVariants.{AmbiguousColumn, NoColumn, TooDeep, WrongKind}
 use Rattle.query.specs.declared.sort.Sort.{Sort}
-use Rattle.query.specs.QueryShape.{QueryShape}
-use Rattle.query.specs.Checked.{and_then, checked, all_checked, sort_of_operator}
-use Rattle.query.specs.CalledColumns.{has_name, place_of, sort_at, sort_named, sort_of_field}
-use Rattle.query.specs.FirstFault.{agg_fault, fault_unless, filter_fault, is_too_deep, key_fault, query_fault}
-use Rattle.query.specs.Named.{agg_columns, columns, columns_in, columns_of, columns_of_aggs, filter_columns}
-use Rattle.query.specs.Resolved.{renamed_query, resolved, unless_fault}
-use Rattle.query.specs.Sorts.{is_int, is_plain, is_truth}
-use Rattle.query.specs.Tree.{Tree, column, int, text, op, Trees, none, one}
+use Rattle.query.specs.Prelude.{QueryShape, Tree, Trees, agg_columns, agg_fault, all_checked, and_then, checked, column, columns, columns_in, columns_of, columns_of_aggs, fault_unless, filter_columns, filter_fault, has_name, int, is_int, is_plain, is_too_deep, is_truth, key_fault, none, one, op, place_of, query_fault, renamed_query, resolved, sort_at, sort_named, sort_of_field, sort_of_operator, text, unless_fault}
 
 and_then-err : {A B : Type 0} (r : Result A QueryFault) (k : A → Result B QueryFault) (e : QueryFault) → and_then r k ≡ Err e → (r ≡ Err e) ⊎ ((x : A) × (r ≡ Ok x) × (k x ≡ Err e))
 and_then-err (Ok x) k e h = inr (x, refl, h)

@@ -9,9 +9,7 @@ use Rattle.query.specs.declared.expr.Op.{Op}
 use Rattle.query.specs.declared.fault.QueryFault.{QueryFault}
 use Rattle.query.specs.declared.fault.QueryFault.TheVariants.{WrongKind}
 use Rattle.query.specs.declared.sort.Sort.{Sort}
-use Rattle.query.specs.Checked.{and_then, checked, all_checked, sort_of_operator}
-use Rattle.query.specs.Resolved.{renamed, all_renamed}
-use Rattle.query.specs.Tree.{Tree, column, int, text, op, Trees, none, one, trees, tree_of, depth, deepest}
+use Rattle.query.specs.Prelude.{Tree, Trees, all_checked, all_renamed, and_then, checked, column, deepest, depth, int, none, one, op, renamed, sort_of_operator, text, tree_of, trees}
 use Rattle.query.proofs.TreeLemmas.{tree_of-Op}
 
 pub all_renamed-trees : {C D : Type 0} (f : C → D) (ts : List (Tree C)) → all_renamed f (trees ts) ≡ trees (map (renamed f) ts)

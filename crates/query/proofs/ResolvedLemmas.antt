@@ -6,11 +6,7 @@ use Rattle.query.specs.declared.fault.QueryFault.{QueryFault}
 use Rattle.query.specs.declared.fault.QueryFault.TheVariants.{TooDeep}
 use Rattle.query.specs.declared.expr.Agg.{Agg}
 use Rattle.query.specs.declared.queries.QueryText.{QueryText}
-use Rattle.query.specs.QueryShape.{QueryShape}
-use Rattle.query.specs.CalledColumns.{place_of, sort_named}
-use Rattle.query.specs.FirstFault.{fits, is_too_deep, query_fault}
-use Rattle.query.specs.Resolved.{renamed_query, resolved, unless_fault, written}
-use Rattle.query.specs.Tree.{tree_of}
+use Rattle.query.specs.Prelude.{QueryShape, fits, is_too_deep, place_of, query_fault, renamed_query, resolved, sort_named, tree_of, unless_fault, written}
 use Rattle.query.proofs.FitLemmas.{fits-renamed, is_too_deep-renamed, query_fault-renamed, query-twice}
 
 -- the fault of the parts is that of the whole

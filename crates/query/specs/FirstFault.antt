@@ -1,7 +1,6 @@
 -- The first fault of a query: of its filter, then its keys, then its aggregates.
 use Rattle.std.specs.Prelude.{◌&&◌, not, nat_lt, ℕ, Bool, true, false, List, [], ◌∷◌, map, if◌then◌else◌, Option, Some, None, is_none, Result, Ok, Err}
-use Rattle.types.specs.First.{first}
-use Rattle.types.specs.Shape.{FieldShape}
+use Rattle.types.specs.Prelude.{FieldShape, first}
 use Rattle.query.specs.declared.expr.Agg.{Agg}
 use Rattle.query.specs.declared.expr.Agg.TheVariants.{Rows, Count, Sum, Least, Greatest}
 use Rattle.query.specs.declared.fault.QueryFault.{QueryFault}

@@ -8,3 +8,4 @@ pub mod QueryShape
 pub mod FirstFault
 pub mod Resolved
 pub mod Named
+pub mod Prelude

@@ -5,17 +5,11 @@ use Rattle.std.proofs.lemmas.List.FromFn.{fill_by_all}
 use Rattle.std.proofs.lemmas.Simd.{map-map}
 use Rattle.std.specs.List.{AllByRecursion, range_with_len}
 use Rattle.arrays.specs.Batch as batch
-use Rattle.arrays.specs.Batch.{Batch}
-use Rattle.arrays.specs.File.{File}
-use Rattle.arrays.specs.Item.{Item}
+use Rattle.arrays.specs.Prelude.{Batch, FieldShape, File, Item, Seen, no_entries}
 use Rattle.arrays.specs.Kind as kind
-use Rattle.arrays.specs.Seen.{Seen, no_entries}
-use Rattle.arrays.specs.Shape.{FieldShape}
-use Rattle.arrow_json.specs.JsonTable.{Table, items_of, table_of, tables_of}
-use Rattle.arrow_json.specs.Text.{document, text}
+use Rattle.arrow_json.specs.Prelude.{Table, document, items_of, table_of, tables_of, text}
 use Rattle.serde_json.specs.Written.{compact_text}
-use Rattle.table.specs.Export.{IsLawful}
-use Rattle.table.specs.History.{History}
+use Rattle.table.specs.Prelude.{History, IsLawful}
 use Rattle.table.proofs.BatchLemmas.{HasColumns-rows_of}
 use Rattle.arrays.proofs.BatchLemmas.{length-rows_of, whole}
 use Rattle.reports.specs.Exported.{added_table}

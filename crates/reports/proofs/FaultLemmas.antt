@@ -1,14 +1,10 @@
 -- Faults that want of memory may stand in for.
 use Rattle.std.proofs.Common.{◌≡◌, ◌≢◌, ◌∙◌, ℕ, List, Err, ap, inl, inr, sym}
 use Rattle.std.specs.Prelude.{◌⊎◌}
-use Rattle.arrays.specs.Shape.{FieldShape}
-use Rattle.table.specs.History.{History}
-use Rattle.table.specs.QueryFault.{QueryFault}
+use Rattle.arrays.specs.Prelude.{FieldShape}
+use Rattle.table.specs.Prelude.{History, QueryFault, QueryShape, resolved}
 use Rattle.table.specs.QueryFaults as query
-use Rattle.table.specs.QueryShape.{QueryShape}
-use Rattle.table.specs.Resolved.{resolved}
-use Rattle.reports.specs.OrMemory.{OrMemory}
-use Rattle.reports.specs.QueryFaults.{IsUnanswered}
+use Rattle.reports.specs.Prelude.{IsUnanswered, OrMemory}
 use Rattle.reports.specs.declared.run_fault.RunFault.{RunFault}
 use Rattle.reports.specs.declared.run_fault.RunFault.TheVariants.{NoMemory, QueryRefused}
 

@@ -3,14 +3,9 @@ use Rattle.std.proofs.Common.{◌≡◌, ◌∙◌, ℕ, List, [], ◌∷◌, ge
 use Rattle.std.proofs.lemmas.Simd.{map-map}
 use Rattle.std.specs.List.{AllByRecursion, range_with_len}
 use Rattle.arrays.specs.Batch as batch
-use Rattle.arrays.specs.Batch.{Batch}
-use Rattle.arrays.specs.File.{File}
-use Rattle.arrays.specs.Item.{Item, null}
-use Rattle.arrays.specs.Seen.{Seen}
-use Rattle.arrays.specs.Shape.{FieldShape}
-use Rattle.arrow_json.specs.JsonFile.{AreUnder, file_of}
+use Rattle.arrays.specs.Prelude.{Batch, FieldShape, File, Item, Seen, null}
+use Rattle.arrow_json.specs.Prelude.{AreUnder, FileData, file_of, table_of}
 use Rattle.arrow_json.specs.JsonTable as read
-use Rattle.arrow_json.specs.JsonTable.{FileData, table_of}
 use Rattle.reports.specs.FileBatches.{FileBatch, batch_of, batches_with_fields}
 
 rows_of_table : (b : Batch) → read.rows_of (table_of b) ≡ batch.rows_of b

@@ -5,12 +5,9 @@ use Rattle.std.proofs.lemmas.Slice.Zip.{AllZip-long}
 use Rattle.std.specs.Prelude.{◌⊎◌}
 use Rattle.std.specs.List.{AllByRecursion, AllZip}
 use Rattle.arrays.specs.File.{File}
-use Rattle.arrow_json.specs.JsonFile.{AreUnder, BytesFault}
-use Rattle.arrow_json.specs.FaultAt.{Tells, stands, wants}
-use Rattle.arrow_json.specs.JsonFault.{JsonFault}
+use Rattle.arrow_json.specs.Prelude.{AreUnder, BytesFault, JsonFault, Tells, stands, wants}
 use Rattle.arrow_json.specs.JsonFaultKinds.{NoMemory as wanting}
-use Rattle.reports.specs.OrMemory.{OrMemory}
-use Rattle.reports.specs.Parsed.{AddsFiles, IsFirstUnread, IsParsed, IsTextOf, StopsParsing}
+use Rattle.reports.specs.Prelude.{AddsFiles, IsFirstUnread, IsParsed, IsTextOf, OrMemory, StopsParsing}
 use Rattle.reports.specs.declared.run_fault.FileFault.TheVariants.{Json}
 use Rattle.reports.specs.declared.run_fault.RunFault.{RunFault}
 use Rattle.reports.specs.declared.run_fault.RunFault.TheVariants.{NoMemory, OfFile}

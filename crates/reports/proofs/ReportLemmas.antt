@@ -7,18 +7,10 @@ use Rattle.std.proofs.lemmas.List.{take_more, append-nil, get_or-map, map-append
 use Rattle.std.proofs.lemmas.List.Elements.{filter-append}
 use Rattle.std.proofs.lemmas.List.FromFn.{map-range_with_len_more}
 use Rattle.std.proofs.lemmas.Option.{slice_get-get_or, slice_get-map}
-use Rattle.arrays.specs.Item.{Item}
-use Rattle.arrays.specs.Shape.{FieldShape, Shape, field_of, field_step, fields_of, is_nullable, kind_of_field, name_of, shape_step}
-use Rattle.arrays.specs.Field.{Field, fold_out-Field, out-Field}
-use Rattle.arrays.specs.Kind.{kind_of}
+use Rattle.arrays.specs.Prelude.{Field, FieldShape, Item, Shape, Table, column, field_of, field_step, fields_of, fold_out-Field, is_nullable, kind_of, kind_of_field, name_of, out-Field, shape_step}
 use Rattle.arrays.proofs.ShapeLemmas.{kind_of_field-field_of}
-use Rattle.table.specs.Stats.{least_of, nulls_of, sum_of}
-use Rattle.table.specs.Summary.{AreStats, scalar_item}
-use Rattle.table.specs.ColumnStats.{ColumnStats}
-use Rattle.reports.specs.Fields.{schema_line, schema_lines}
-use Rattle.reports.specs.Shown.{worker_lines, worker_line, column_line, column_lines, field_line}
-use Rattle.arrays.specs.Batch.{Table, column}
-use Rattle.table.specs.History.{History, book, rows, of}
+use Rattle.table.specs.Prelude.{AreStats, ColumnStats, History, book, least_of, nulls_of, of, rows, scalar_item, sum_of}
+use Rattle.reports.specs.Prelude.{column_line, column_lines, field_line, schema_line, schema_lines, worker_line, worker_lines}
 use Rattle.table.proofs.HistoryLemmas.{rows-push}
 
 -- ---- the shares of a history, pair by pair

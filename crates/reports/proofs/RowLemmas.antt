@@ -4,11 +4,8 @@ use Rattle.std.proofs.lemmas.Grind.{flat_map-append}
 use Rattle.std.proofs.lemmas.List.{append-nil, get_or-map, take_min, take_more}
 use Rattle.std.proofs.lemmas.List.FromFn.{get_or-range_with_len, length-range_with_len}
 use Rattle.std.specs.List.{All, flat_map, range_with_len}
-use Rattle.arrays.specs.Batch.{Batch, Row, Table, row_of, rows_of}
+use Rattle.arrays.specs.Prelude.{Batch, FieldShape, Item, Row, Seen, Table, list_of, row_of, rows_of}
 use Rattle.arrays.proofs.BatchLemmas.{length-rows_of, sizes, whole}
-use Rattle.arrays.specs.Item.{Item, list_of}
-use Rattle.arrays.specs.Seen.{Seen}
-use Rattle.arrays.specs.Shape.{FieldShape}
 use Rattle.table.specs.Lawful.{IsStored}
 use Rattle.reports.specs.Shown.{cell, cells}
 

@@ -3,7 +3,7 @@ use Rattle.std.specs.Prelude.{ℕ, List, [], ◌∷◌, ◌++◌, ◌||◌, ◌=
 use Rattle.std.specs.List.{join_with_byte, list_any}
 use Rattle.std.specs.Fmt.{signed_decimal}
 use Rattle.arrays.specs.Item as item
-use Rattle.arrays.specs.Item.{Item}
+use Rattle.arrays.specs.Prelude.{Item}
 use Rattle.reports.specs.Shown.{truth_text}
 
 -- A comma, a quote, CR and LF stand within quotes alone. (item 6)

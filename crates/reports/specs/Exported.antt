@@ -2,9 +2,8 @@
 use Rattle.std.specs.Prelude.{ℕ, List, length, map}
 use Rattle.std.specs.List.{range_with_len}
 use Rattle.arrays.specs.Batch as batch
-use Rattle.arrays.specs.Shape.{FieldShape}
-use Rattle.arrow_json.specs.JsonTable.{Table}
-use Rattle.arrow_json.specs.Text.{document}
+use Rattle.arrays.specs.Prelude.{FieldShape}
+use Rattle.arrow_json.specs.Prelude.{Table, document}
 use Rattle.ends.specs.Line.{line}
 use Rattle.serde_json.specs.Written.{compact_text}
 use Rattle.table.specs.History.{History}

@@ -3,8 +3,8 @@ use Rattle.std.specs.Prelude.{ℕ, List}
 use Rattle.reports.specs.AddFaultText.{add_fault_text}
 use Rattle.reports.specs.Lines.{column_fault_line, unread_line, file_line, query_line, refusal_line}
 use Rattle.ends.specs.Line.{memory_line}
-use Rattle.arrow_json.specs.JsonFaultText.{fault_text}
-use Rattle.table.specs.FaultText.{query_fault_text}
+use Rattle.arrow_json.specs.Prelude.{fault_text}
+use Rattle.table.specs.Prelude.{query_fault_text}
 use Rattle.reports.specs.declared.run_fault.ColumnFault.{ColumnFault}
 use Rattle.reports.specs.declared.run_fault.ColumnFault.TheVariants as column
 use Rattle.reports.specs.declared.run_fault.ColumnFault.TheVariants.{Unread}

@@ -3,8 +3,7 @@ use Rattle.std.specs.Prelude.{ℕ, List, ◌++◌, Bool, codes}
 use Rattle.std.specs.List.{flat_map}
 use Rattle.json.specs.Print.{quoted}
 use Rattle.ends.specs.Line.{line}
-use Rattle.arrays.specs.Kind.{Kind}
-use Rattle.arrays.specs.Shape.{FieldShape, is_nullable, kind_of_field, name_of}
+use Rattle.arrays.specs.Prelude.{FieldShape, Kind, is_nullable, kind_of_field, name_of}
 use Rattle.reports.specs.Shown.{shown_kind, truth_text}
 
 -- A name, a type, and whether it may hold nulls.

@@ -1,9 +1,8 @@
 -- The batches of files, and the fields of the table that they are loaded into.
 use Rattle.std.specs.Prelude.{List, [], ◌∷◌, map}
 use Rattle.arrays.specs.Batch as batch
-use Rattle.arrays.specs.Batch.{Batch}
-use Rattle.arrays.specs.Shape.{FieldShape}
-use Rattle.arrow_json.specs.JsonTable.{FileData, rows_of}
+use Rattle.arrays.specs.Prelude.{Batch, FieldShape}
+use Rattle.arrow_json.specs.Prelude.{FileData, rows_of}
 use Rattle.table.specs.Stored.{stored_fields}
 
 -- A batch of a file: the fields of the file, and the rows.

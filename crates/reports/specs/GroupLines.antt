@@ -1,12 +1,9 @@
 -- The output of `query`: the items of each group's key and then its aggregates, as a line, an array of JSON or a record of CSV.
 use Rattle.std.specs.Prelude.{ℕ, List, [], ◌∷◌, ◌++◌, Bool, true, codes, cond, map}
 use Rattle.std.specs.List.{flat_map, join_with_byte}
-use Rattle.table.specs.Groups.{GroupShape}
-use Rattle.arrays.specs.Item.{Item}
+use Rattle.table.specs.Prelude.{Agg, Count, Greatest, GroupShape, Least, QueryShape, Rows, Sum}
+use Rattle.arrays.specs.Prelude.{Item}
 use Rattle.ends.specs.Line.{line}
-use Rattle.table.specs.QueryShape.{QueryShape}
-use Rattle.table.specs.Agg.{Agg}
-use Rattle.table.specs.Aggs.{Rows, Count, Sum, Least, Greatest}
 use Rattle.reports.specs.Csv.{csv_cell, csv_record, csv_text}
 use Rattle.reports.specs.Shown.{array_text, cell}
 use Rattle.reports.specs.declared.forms.Spelling.{Spelling}

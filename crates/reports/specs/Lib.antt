@@ -15,3 +15,4 @@ pub mod FaultLine
 pub mod OrMemory
 pub mod Parsed
 pub mod QueryFaults
+pub mod Prelude

@@ -4,10 +4,8 @@ use Rattle.std.specs.Fmt.{decimal}
 use Rattle.ends.specs.Line.{message}
 use Rattle.json.specs.Print.{escape_byte}
 use Rattle.reports.specs.RefusalText.{refusal_text}
-use Rattle.arrow_json.specs.JsonFaultText.{fault_text}
+use Rattle.arrow_json.specs.Prelude.{JsonFaultKind, Step, fault_text}
 use Rattle.table.specs.declared.refusal.Refusal.{Refusal}
-use Rattle.arrow_json.specs.Step.{Step}
-use Rattle.arrow_json.specs.JsonFaultKind.{JsonFaultKind}
 
 -- A character of a file's name as it is reported: a control character and the backslash as in a JSON string, any other as it is.
 -- (RFC 8259, 7. Strings; U+007F, which may stand there as it is, is reported so too)

@@ -2,9 +2,7 @@
 use Rattle.std.specs.Prelude.{◌≡◌, ◌+◌, ◌++◌, ◌∷◌, ℕ, List, MatchResult, Result, length}
 use Rattle.std.specs.List.{AllZip}
 use Rattle.arrays.specs.File.{File}
-use Rattle.arrow_json.specs.JsonFile.{AreUnder, BytesFault, Reads, file_of}
-use Rattle.arrow_json.specs.FaultAt.{Tells}
-use Rattle.arrow_json.specs.JsonFault.{JsonFault}
+use Rattle.arrow_json.specs.Prelude.{AreUnder, BytesFault, JsonFault, Reads, Tells, file_of}
 use Rattle.reports.specs.declared.run_fault.FileFault.TheVariants.{Json}
 use Rattle.reports.specs.declared.run_fault.RunFault.{RunFault}
 use Rattle.reports.specs.declared.run_fault.RunFault.TheVariants.{OfFile}

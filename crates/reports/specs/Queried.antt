@@ -1,12 +1,7 @@
 -- What a query prints of a table, and why it prints nothing.
 use Rattle.std.specs.Prelude.{◌≡◌, ◌⊎◌, ℕ, List, Ok, Err}
-use Rattle.table.specs.Groups.{GroupShape, groups}
-use Rattle.arrays.specs.Shape.{FieldShape}
-use Rattle.table.specs.QueryShape.{QueryShape}
-use Rattle.table.specs.Resolved.{resolved}
-use Rattle.table.specs.QueryFault.{QueryFault}
-use Rattle.table.specs.QueryFaults.{Overflow}
-use Rattle.table.specs.History.{History, rows}
+use Rattle.table.specs.Prelude.{GroupShape, History, Overflow, QueryFault, QueryShape, groups, resolved, rows}
+use Rattle.arrays.specs.Prelude.{FieldShape}
 use Rattle.reports.specs.GroupLines.{group_lines}
 
 -- The text is what is shown of the groups that a query asks of the rows, each of whose names is one field's.

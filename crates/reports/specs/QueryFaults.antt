@@ -1,13 +1,8 @@
 -- Faults of a query: of its text, and over a table.
 use Rattle.std.specs.Prelude.{◌≡◌, ℕ, List, Err}
-use Rattle.table.specs.Groups.{groups}
-use Rattle.arrays.specs.Shape.{FieldShape}
-use Rattle.arrow_json.specs.JsonFault.{JsonFault}
-use Rattle.arrow_json.specs.QueryDocumentFault.{QueryBytesFault}
-use Rattle.table.specs.QueryShape.{QueryShape}
-use Rattle.table.specs.QueryFault.{QueryFault}
-use Rattle.table.specs.QueryFaults.{Overflow}
-use Rattle.table.specs.History.{History, rows}
+use Rattle.table.specs.Prelude.{History, Overflow, QueryFault, QueryShape, groups, rows}
+use Rattle.arrays.specs.Prelude.{FieldShape}
+use Rattle.arrow_json.specs.Prelude.{JsonFault, QueryBytesFault}
 use Rattle.reports.specs.Queried.{RefusesGroups}
 use Rattle.reports.specs.declared.run_fault.RunFault.{RunFault}
 use Rattle.reports.specs.declared.run_fault.RunFault.TheVariants.{QueryUnread, QueryRefused}

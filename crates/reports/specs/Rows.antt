@@ -3,9 +3,7 @@ use Rattle.std.specs.Prelude.{ℕ, List, ◌++◌, codes, map, take}
 use Rattle.std.specs.List.{flat_map, join_with_byte, zip}
 use Rattle.json.specs.Print.{quoted}
 use Rattle.ends.specs.Line.{line}
-use Rattle.arrays.specs.Batch.{Row}
-use Rattle.arrays.specs.Item.{Item}
-use Rattle.arrays.specs.Shape.{FieldShape, name_of}
+use Rattle.arrays.specs.Prelude.{FieldShape, Item, Row, name_of}
 use Rattle.table.specs.History.{History, rows}
 use Rattle.reports.specs.Shown.{cell}
 

@@ -4,17 +4,11 @@ use Rattle.std.specs.List.{enumerate_from, range_with_len, flat_map, join_with_b
 use Rattle.std.specs.Fmt.{decimal, signed_decimal}
 use Rattle.json.specs.Print.{quoted}
 use Rattle.ends.specs.Line.{line}
-use Rattle.arrays.specs.Width.{Width}
-use Rattle.arrays.specs.Widths.{W8, W16, W32, W64}
-use Rattle.arrow_json.specs.SchemaData.{list_name, text_name}
+use Rattle.arrays.specs.Prelude.{FieldShape, Item, Items, Kind, Table, W16, W32, W64, W8, Width, column, kind_of_field, name_of}
+use Rattle.arrow_json.specs.Prelude.{list_name, text_name}
 use Rattle.arrays.specs.Item as item
-use Rattle.arrays.specs.Item.{Item, Items}
 use Rattle.arrays.specs.Kind as kind
-use Rattle.arrays.specs.Kind.{Kind}
-use Rattle.arrays.specs.Shape.{FieldShape, kind_of_field, name_of}
-use Rattle.arrays.specs.Batch.{Table, column}
-use Rattle.table.specs.History.{History, rows, of}
-use Rattle.table.specs.Stats.{nulls_of, sum_of, least_of, greatest_of}
+use Rattle.table.specs.Prelude.{History, greatest_of, least_of, nulls_of, of, rows, sum_of}
 
 -- ---- lines over plain numbers and texts
 

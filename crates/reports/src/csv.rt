@@ -3,8 +3,7 @@ ghost use Rattle.std.specs.Prelude.{◌≡◌, ◌||◌, ◌∷◌, ◌++◌, �
 ghost use Rattle.std.specs.Str.{chars};
 ghost use Rattle.std.specs.Prelude.{flat_map};
 ghost use Rattle.std.specs.List.{join_with_byte, list_any};
-ghost use Rattle.table.specs.Summary.{scalar_item};
-ghost use Rattle.table.specs.Resolved.{named, renamed_agg};
+ghost use Rattle.table.specs.Prelude.{named, renamed_agg, scalar_item};
 ghost use Rattle.reports.specs.Csv.{csv_cell, csv_text, doubled_char, is_quoted, is_special};
 ghost use Rattle.reports.specs.GroupLines.{agg_label, column_names, names_record};
 

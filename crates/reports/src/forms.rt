@@ -1,8 +1,6 @@
 //! The groups of an answer as text: as lines, as arrays of JSON, or as records of CSV.
 ghost use Rattle.std.specs.Prelude.{◌≡◌, ◌++◌, ◌<◌, IfOk, OnOk, map, string_bytes};
-ghost use Rattle.table.specs.Scalars.{item_of_scalar};
-ghost use Rattle.table.specs.Answers.{group_shape};
-ghost use Rattle.table.specs.Resolved.{named};
+ghost use Rattle.table.specs.Prelude.{group_shape, item_of_scalar, named};
 ghost use Rattle.reports.specs.Csv.{csv_cell};
 ghost use Rattle.reports.specs.GroupLines.{group_array, group_arrays, group_line, group_lines, group_record, group_records, group_text, joined_behind, spell};
 ghost use Rattle.reports.specs.Shown.{cell};

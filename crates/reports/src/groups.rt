@@ -1,13 +1,9 @@
 //! The output of `query`.
 ghost use Rattle.std.specs.Prelude.{◌≡◌, IfErr, IfOk, Ok, string_bytes, true};
-ghost use Rattle.table.specs.Answers.{IsAnswer};
-ghost use Rattle.table.specs.QueryShape.{query_shape};
-ghost use Rattle.table.specs.FirstFault.{fits};
-ghost use Rattle.table.specs.Resolved.{named, resolved};
+ghost use Rattle.table.specs.Prelude.{IsAnswer, fits, named, query_shape, resolved, rows};
 ghost use Rattle.reports.specs.OrMemory.{OrMemory};
 ghost use Rattle.reports.specs.Queried.{PrintsGroups};
 ghost use Rattle.reports.specs.QueryFaults.{IsUnanswered, IsUnplaced};
-ghost use Rattle.table.specs.History.{rows};
 
 use crate::forms::group_lines;
 use crate::run_fault::RunFault;

@@ -1,10 +1,7 @@
 //! The output of `head`.
 ghost use Rattle.std.specs.Prelude.{◌≡◌, ◌++◌, ◌-◌, ◌<◌, ◌≤◌, All, IfOk, OnOk, length, map, option_copied, slice_index_or, string_bytes, take, true};
 ghost use Rattle.std.specs.List.{flat_map, join_with_byte, zip};
-ghost use Rattle.arrays.specs.Batch.{row_of, rows_of};
-ghost use Rattle.arrays.specs.Item.{null};
-ghost use Rattle.arrays.specs.Slot.{is_list, item_of, item_of_bool, item_of_text};
-ghost use Rattle.arrays.specs.Shape.{field_of, fields_of};
+ghost use Rattle.arrays.specs.Prelude.{field_of, fields_of, is_list, item_of, item_of_bool, item_of_text, null, row_of, rows_of};
 ghost use Rattle.table.specs.Lawful.{IsStored};
 ghost use Rattle.reports.specs.Rows.{first_lines, member_text, row_line};
 ghost use Rattle.reports.specs.Shown.{array_text, cell};

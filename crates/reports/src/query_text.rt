@@ -1,7 +1,7 @@
 //! Queries that are read from their texts.
 ghost use Rattle.std.specs.Prelude.{IfErr, IfOk};
-ghost use Rattle.arrow_json.specs.QueryDocument.{ReadsQueryText};
-ghost use Rattle.table.specs.Resolved.{named};
+ghost use Rattle.arrow_json.specs.Prelude.{ReadsQueryText};
+ghost use Rattle.table.specs.Prelude.{named};
 ghost use Rattle.reports.specs.OrMemory.{OrMemory};
 ghost use Rattle.reports.specs.QueryFaults.{IsUnreadQuery};
 

@@ -1,11 +1,8 @@
 //! The output of `stats`.
-ghost use Rattle.arrays.specs.Item.{Item};
+ghost use Rattle.arrays.specs.Prelude.{Item, field_of, kind_of_field};
 ghost use Rattle.std.specs.Prelude.{List, ◌≡◌, ◌++◌, length, OnOk, IfOk, string_bytes};
-ghost use Rattle.arrays.specs.Shape.{field_of, kind_of_field};
 ghost use Rattle.reports.specs.Shown.{stats_text, worker_lines, column_lines, field_line};
-ghost use Rattle.table.specs.Summary.{AreStats};
-ghost use Rattle.table.specs.Cause.{IsLegal};
-ghost use Rattle.table.specs.History.{of, rows};
+ghost use Rattle.table.specs.Prelude.{AreStats, IsLegal, of, rows};
 
 use crate::text::{column_line, push_rows_line, push_worker_line};
 use arrays::{Field, NoMemory};

@@ -1,6 +1,6 @@
 //! The output of `schema`.
 ghost use Rattle.std.specs.Prelude.{◌≡◌, ◌∷◌, ◌++◌, [], IfOk, OnOk, string_bytes};
-ghost use Rattle.arrays.specs.Shape.{field_of};
+ghost use Rattle.arrays.specs.Prelude.{field_of};
 ghost use Rattle.reports.specs.Fields.{schema_lines};
 
 use crate::text::schema_line;

@@ -1,8 +1,8 @@
 //! The lines of `stats` and of `schema`, as text.
 ghost use Rattle.std.specs.Prelude.{◌≡◌, ◌++◌, OnOk, IfOk, option_map, string_bytes};
 ghost use Rattle.arrays.specs.Item as item;
-ghost use Rattle.arrays.specs.Kind.{kind_of};
-ghost use Rattle.table.specs.Summary.{scalar_item};
+ghost use Rattle.arrays.specs.Prelude.{kind_of};
+ghost use Rattle.table.specs.Prelude.{scalar_item};
 ghost use Rattle.json.specs.Print.{quoted};
 ghost use Rattle.reports.specs.Fields.{schema_line};
 ghost use Rattle.reports.specs.Shown.{cell, column_line, shown_kind, rows_line, sum_text, truth_text, shown_int, value_text, worker_line};

@@ -4,15 +4,12 @@ use Rattle.std.proofs.lemmas.Bool.{and_parts, false≢true}
 use Rattle.std.proofs.lemmas.List.Folds.{list_all-map}
 use Rattle.std.specs.List.{list_all}
 use Rattle.std.specs.Prelude.{if◌then◌else◌}
-use Rattle.arrays.specs.OffsetWidths.{Wide}
+use Rattle.arrays.specs.Prelude.{Item, Wide, shown}
 use Rattle.arrays.specs.Kind as kind
 use Rattle.arrays.specs.Item as item
-use Rattle.arrays.specs.Item.{Item}
-use Rattle.arrays.specs.Shown.{shown}
 use Rattle.answers.specs.Answers.{group_shape}
 use Rattle.answers.specs.declared.groups.Group.{Group}
-use Rattle.results.specs.Cell.{only_of}
-use Rattle.results.specs.Result.{is_of, item_at, kind_of_type, result_column, decimal_text}
+use Rattle.results.specs.Prelude.{decimal_text, is_of, item_at, kind_of_type, only_of, result_column}
 use Rattle.results.specs.declared.result_type.ResultType.{ResultType}
 use Rattle.results.specs.declared.result_type.ResultType.TheVariants.{Text}
 

@@ -2,9 +2,7 @@
 use Rattle.std.proofs.Common.{◌≡◌, ◌∙◌, ℕ, ◌<◌, ◌≤◌, List, length, get_or, option_map, ap, refl}
 use Rattle.std.proofs.lemmas.Option.{slice_get-map, slice_get_past, slice_get_read}
 use Rattle.arrays.proofs.ShapeLemmas.{kind_of_field-field_of}
-use Rattle.arrays.specs.Kind.{kind_of}
-use Rattle.arrays.specs.Shape.{field_of, fields_of}
-use Rattle.arrays.specs.Field.{Field, out-Field}
+use Rattle.arrays.specs.Prelude.{Field, field_of, fields_of, kind_of, out-Field}
 use Rattle.results.specs.Types.{type_at, type_of_field, type_of_kind}
 use Rattle.results.specs.declared.result_type.ResultType.TheVariants.{Text}
 

@@ -1,7 +1,7 @@
 -- A cell of an answer, in the making of a column.
 use Rattle.std.specs.Prelude.{if◌then◌else◌}
 use Rattle.arrays.specs.Item as item
-use Rattle.arrays.specs.Item.{Item}
+use Rattle.arrays.specs.Prelude.{Item}
 use Rattle.results.specs.declared.result_type.ResultType.{ResultType}
 use Rattle.results.specs.Result.{is_of}
 

@@ -2,3 +2,4 @@
 pub mod Types
 pub mod Result
 pub mod Cell
+pub mod Prelude

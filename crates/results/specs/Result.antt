@@ -2,17 +2,10 @@
 use Rattle.std.specs.Prelude.{ℕ, List, [], ◌++◌, map, length, slice_index_or, codes, Bool, true, false, if◌then◌else◌}
 use Rattle.std.specs.List.{list_all, range_with_len}
 use Rattle.std.specs.Fmt.{signed_decimal}
-use Rattle.arrays.specs.OffsetWidths.{Wide}
+use Rattle.arrays.specs.Prelude.{Batch, FieldShape, Item, Kind, Seen, Shape, Wide, field, is_of_type, shown}
 use Rattle.arrays.specs.Kind as kind
-use Rattle.arrays.specs.Kind.{Kind}
-use Rattle.arrays.specs.Number.{is_of_type}
 use Rattle.arrays.specs.Shape as shape
-use Rattle.arrays.specs.Shape.{FieldShape, Shape, field}
-use Rattle.arrays.specs.Batch.{Batch}
 use Rattle.arrays.specs.Item as item
-use Rattle.arrays.specs.Item.{Item}
-use Rattle.arrays.specs.Shown.{shown}
-use Rattle.arrays.specs.Seen.{Seen}
 use Rattle.answers.specs.Groups.{GroupShape}
 use Rattle.results.specs.declared.result_type.ResultType.{ResultType}
 use Rattle.results.specs.declared.result_type.ResultType.TheVariants as result

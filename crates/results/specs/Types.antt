@@ -1,11 +1,8 @@
 -- Of which types the columns of an answer are.
 use Rattle.std.specs.Prelude.{ℕ, List, ◌++◌, map, slice_get, Option, Some, None}
 use Rattle.arrays.specs.Kind as kind
-use Rattle.arrays.specs.Kind.{Kind, int64}
-use Rattle.arrays.specs.Shape.{FieldShape, kind_of_field}
-use Rattle.answers.specs.QueryShape.{QueryShape}
-use Rattle.answers.specs.Agg.{Agg}
-use Rattle.answers.specs.Aggs.{Rows, Count, Sum, Least, Greatest}
+use Rattle.arrays.specs.Prelude.{FieldShape, Kind, int64, kind_of_field}
+use Rattle.answers.specs.Prelude.{Agg, Count, Greatest, Least, QueryShape, Rows, Sum}
 use Rattle.results.specs.declared.result_type.ResultType.{ResultType}
 use Rattle.results.specs.declared.result_type.ResultType.TheVariants.{Int, Bool, Text}
 

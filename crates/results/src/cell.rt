@@ -1,12 +1,9 @@
 //! A cell of an answer.
 ghost use Rattle.std.specs.Prelude.{◌≡◌, ◌++◌, ◌∷◌, ◌<◌, [], OnOk, length, option_map};
 ghost use Rattle.std.specs.Option.{ForSome};
-ghost use Rattle.arrays.specs.Limits.{most_slots};
-ghost use Rattle.arrays.specs.Number.{IsOfType};
+ghost use Rattle.arrays.specs.Prelude.{IsOfType, item_of, item_of_bool, item_of_text, most_slots};
 ghost use Rattle.std.specs.Option.{option_copied};
-ghost use Rattle.arrays.specs.Slot.{item_of, item_of_bool, item_of_text};
-ghost use Rattle.answers.specs.Answers.{group_shape};
-ghost use Rattle.answers.specs.Scalars.{item_of_scalar};
+ghost use Rattle.answers.specs.Prelude.{group_shape, item_of_scalar};
 ghost use Rattle.results.specs.Cell.{only_of};
 ghost use Rattle.results.specs.Result.{is_of, item_at, decimal_text};
 

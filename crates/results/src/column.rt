@@ -2,9 +2,7 @@
 ghost use Rattle.std.specs.Prelude.{◌≡◌, ◌≤◌, IfOk, length, map};
 ghost use Rattle.std.specs.List.{list_all};
 ghost use Rattle.arrays.specs.Kind as kind;
-ghost use Rattle.arrays.specs.Limits.{most_slots};
-ghost use Rattle.arrays.specs.OffsetWidths.{Wide};
-ghost use Rattle.arrays.specs.Shown.{shown};
+ghost use Rattle.arrays.specs.Prelude.{Wide, most_slots, shown};
 ghost use Rattle.answers.specs.Answers.{group_shape};
 ghost use Rattle.results.specs.Cell.{only_of};
 ghost use Rattle.results.specs.Result.{is_of, item_at, result_column, decimal_text};

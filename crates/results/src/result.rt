@@ -1,8 +1,7 @@
 //! The record batch of an answer.
 ghost use Rattle.std.specs.Prelude.{◌≡◌, ◌≤◌, IfOk, [], length, map, slice_index_or, string_bytes};
 ghost use Rattle.arrays.specs.Kind as kind;
-ghost use Rattle.arrays.specs.Limits.{most_slots};
-ghost use Rattle.arrays.specs.Shape.{fields_of, shape_of};
+ghost use Rattle.arrays.specs.Prelude.{fields_of, most_slots, shape_of};
 ghost use Rattle.answers.specs.Answers as answers;
 ghost use Rattle.results.specs.Result.{result_batch, result_columns, result_fields, shape_of_kind};
 

@@ -1,7 +1,7 @@
 //! Of which types the columns of an answer are.
 ghost use Rattle.std.specs.Prelude.{◌≡◌, ◌++◌, IfOk, map};
-ghost use Rattle.arrays.specs.Kind.{kind_of};
-ghost use Rattle.answers.specs.QueryShape.{query_shape};
+ghost use Rattle.arrays.specs.Prelude.{kind_of};
+ghost use Rattle.answers.specs.Prelude.{query_shape};
 ghost use Rattle.results.specs.Types.{result_types, type_at, type_of_agg, type_of_kind};
 
 use answers::{Agg, Query};

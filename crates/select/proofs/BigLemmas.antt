@@ -3,19 +3,13 @@ use Rattle.std.proofs.Common.{◌≡◌, ◌∙◌, ℕ, ◌+◌, ◌≤◌, Lis
 use Rattle.std.specs.Prelude.{slice_get}
 use Rattle.std.proofs.lemmas.List.{take-map}
 use Rattle.std.proofs.lemmas.List.Sums.{sum_by-take-le}
-use Rattle.arrays.specs.OffsetWidth.{OffsetWidth}
-use Rattle.arrays.specs.OffsetWidths.{Narrow, Wide}
-use Rattle.arrays.specs.OffsetSize.{is_full}
-use Rattle.arrays.specs.Item.{Item}
+use Rattle.arrays.specs.Prelude.{IsBuildFault, Item, Narrow, OffsetWidth, Wide, is_full, is_past, most_slots, text_bytes, text_length}
 use Rattle.arrays.specs.Lengths as build
-use Rattle.arrays.specs.Lengths.{IsBuildFault, is_past, text_bytes, text_length}
 use Rattle.arrays.specs.declared.builder.fault.BuildFault.{BuildFault}
 use Rattle.select.specs.declared.fault.SelectFault.{SelectFault}
-use Rattle.select.specs.Fault.{IsFull, of_build}
-use Rattle.select.specs.Picked.{picked, picked_at}
+use Rattle.select.specs.Prelude.{IsFull, of_build, picked, picked_at}
 use Rattle.arrays.proofs.CutLemmas.{full-grows, past-more}
 use Rattle.select.proofs.PickLemmas.{picked-more}
-use Rattle.arrays.specs.Limits.{most_slots}
 
 -- texts of the first rows are too many only where those of all are
 pub full-picked : (w : OffsetWidth) (items : List Item) (picks : List (Option ℕ)) (j : ℕ) (pick : Option ℕ) (old : List Item) (x : Item) → slice_get picks j ≡ Some pick

@@ -5,22 +5,13 @@ use Rattle.std.specs.List.{range_with_len}
 use Rattle.std.proofs.lemmas.List.{get_or-drop}
 use Rattle.std.proofs.lemmas.List.FromFn.{get_or-map-range_with_len, length-map-range_with_len}
 use Rattle.std.proofs.lemmas.Option.{get_or_from_slice_get}
-use Rattle.arrays.specs.Bit.{bit, bit_in, bits}
-use Rattle.arrays.specs.Bitmap.{IsBitmap, IsBitmapOf}
+use Rattle.arrays.specs.Prelude.{HasBits, IsBitmap, IsBitmapOf, IsBufferOf, Item, Seen, bit, bit_in, bits, boolean, bytes_for, is_validity_short, kept, null, show_bits, shown, valid_at}
 use Rattle.arrays.proofs.BitLemmas.{bits-filled, get_or-bits, past-filled}
 use Rattle.arrays.proofs.WordLemmas.{ArePlaces}
-use Rattle.arrays.specs.FromParts.{show_bits}
-use Rattle.arrays.specs.Item.{Item, boolean, null}
 use Rattle.arrays.specs.Kind as kind
-use Rattle.arrays.specs.Packed.{IsBufferOf}
-use Rattle.arrays.specs.Seen.{Seen, valid_at}
-use Rattle.arrays.specs.Shown.{kept, shown}
-use Rattle.arrays.specs.Values.{HasBits}
 use Rattle.arrays.proofs.FinishedLemmas.{slot, slots_shown}
 use Rattle.arrays.proofs.PartLemmas.{item_slot}
-use Rattle.arrays.specs.Fault.{bytes_for, is_validity_short}
-use Rattle.select.specs.Picked.{picked, picked_at, IsPick}
-use Rattle.select.specs.Stored.{is_stored}
+use Rattle.select.specs.Prelude.{IsPick, is_stored, picked, picked_at}
 use Rattle.select.proofs.PickLemmas.{picked-by_place}
 
 -- the bits of the rows from place a on

@@ -2,17 +2,10 @@
 use Rattle.std.proofs.Common.{◌≡◌, ◌∙◌, ℕ, ◌<◌, List, [], ◌∷◌, length, map, true, Option, None, Some, Result, Ok, Err, IfOk, ap, sym, refl, arith, get_or}
 use Rattle.std.specs.Prelude.{All}
 use Rattle.std.proofs.lemmas.List.{length-map}
-use Rattle.arrays.specs.Dictionary.{codes_of, dictionary_of, encoded, entries_shown, is_code, looked_up}
-use Rattle.arrays.specs.Item.{Item, null}
+use Rattle.arrays.specs.Prelude.{Entries, Item, Kind, OffsetWidth, Seen, codes_of, dictionary_of, encoded, entries_shown, int32, is_code, item_kind, looked_up, null, same_kind, shown, validity_of}
 use Rattle.arrays.specs.Kind as kind
-use Rattle.arrays.specs.OffsetWidth.{OffsetWidth}
-use Rattle.arrays.specs.Kind.{Kind, item_kind, same_kind, int32}
-use Rattle.arrays.specs.Seen.{Entries, Seen}
-use Rattle.arrays.specs.Shown.{shown, validity_of}
 use Rattle.select.specs.declared.fault.SelectFault.{SelectFault}
-use Rattle.select.specs.Chosen.{chosen}
-use Rattle.select.specs.Selection.{kept}
-use Rattle.select.specs.Picked.{picked, picked_at, IsPick}
+use Rattle.select.specs.Prelude.{IsPick, chosen, kept, picked, picked_at}
 use Rattle.select.proofs.ListLemmas.{get_or-map-any}
 
 pub kind-chosen : (k : Kind) (f : List Item → List Item) (s : Seen) → (chosen k f s).kind ≡ k

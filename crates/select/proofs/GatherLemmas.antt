@@ -1,15 +1,9 @@
 -- Lists and their items, gathered.
 use Rattle.std.proofs.Common.{◌≡◌, ◌∙◌, ℕ, List, length, map, Option, ap, sym}
 use Rattle.std.specs.Prelude.{All}
-use Rattle.arrays.specs.Item.{Item}
-use Rattle.arrays.specs.OffsetWidth.{OffsetWidth}
+use Rattle.arrays.specs.Prelude.{HasLists, Item, OffsetWidth, Seen, cut, inner_items, list_length, shown, total}
 use Rattle.arrays.specs.Kind as kind
-use Rattle.arrays.specs.Lengths.{cut, inner_items, list_length, total}
-use Rattle.arrays.specs.Seen.{Seen}
-use Rattle.arrays.specs.Shown.{shown}
-use Rattle.arrays.specs.Values.{HasLists}
-use Rattle.select.specs.Chosen.{chosen}
-use Rattle.select.specs.Picked.{picked, IsPick}
+use Rattle.select.specs.Prelude.{IsPick, chosen, picked}
 use Rattle.select.proofs.ChosenLemmas.{items-chosen, kind-chosen}
 use Rattle.select.proofs.ListLemmas.{cut-again, lists-picked, total-lengths}
 

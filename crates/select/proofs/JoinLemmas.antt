@@ -9,19 +9,11 @@ use Rattle.std.proofs.lemmas.List.Sums.{AllPass-from_list_all, sum_by-append, su
 use Rattle.std.proofs.lemmas.Option.{slice_get-get_or}
 use Rattle.std.proofs.lemmas.Result.{IfErr-weaker}
 use Rattle.std.proofs.lemmas.Bool.{or_cases}
-use Rattle.arrays.specs.Item.{Item, null}
+use Rattle.arrays.specs.Prelude.{Item, Kind, OffsetWidth, Seen, cut, inner_items, is_full, is_past, is_too_big, item_kind, items_in, joined_items, list_length, null, same_kind, shown, text_bytes, text_length, total}
 use Rattle.arrays.specs.Kind as kind
-use Rattle.arrays.specs.OffsetWidth.{OffsetWidth}
-use Rattle.arrays.specs.OffsetSize.{is_full}
-use Rattle.arrays.specs.Kind.{Kind, item_kind, same_kind}
 use Rattle.select.proofs.ChosenLemmas.{item-is}
-use Rattle.arrays.specs.Lengths.{cut, inner_items, is_past, is_too_big, items_in, joined_items, list_length, text_bytes, text_length, total}
-use Rattle.arrays.specs.Seen.{Seen}
-use Rattle.arrays.specs.Shown.{shown}
 use Rattle.arrays.proofs.ChildLemmas.{same_kinds}
-use Rattle.select.specs.Children.{AreChildren, IsChild, IsInner, IsList}
-use Rattle.select.specs.Fault.{IsFull}
-use Rattle.select.specs.Joined.{concat_fault, is_content_too_big, joined, kind_of_first}
+use Rattle.select.specs.Prelude.{AreChildren, IsChild, IsFull, IsInner, IsList, concat_fault, is_content_too_big, joined, kind_of_first}
 use Rattle.select.specs.declared.fault.SelectFault.{SelectFault}
 use Rattle.select.specs.declared.fault.SelectFault.TheVariants.{TypesDiffer}
 use Rattle.arrays.proofs.CutLemmas.{full-grows, past-more}

@@ -5,19 +5,11 @@ use Rattle.std.specs.Option.{ForSome}
 use Rattle.std.proofs.lemmas.Int.{ints}
 use Rattle.std.proofs.lemmas.List.{drop_all, drop_more, get_or-append-add, length-map, map-append}
 use Rattle.std.proofs.lemmas.List.Elements.{All-append, All-tail}
-use Rattle.arrays.specs.Slot.{item_of}
-use Rattle.arrays.specs.Dictionary.{codes_of, dictionary_of, encoded, is_code, looked_up}
-use Rattle.arrays.specs.Item.{Item, null, int, boolean, text, list}
-use Rattle.arrays.specs.Kind.{int32}
-use Rattle.arrays.specs.Number.{IsOfType}
-use Rattle.arrays.specs.Seen.{Seen}
-use Rattle.arrays.specs.Shown.{shown}
+use Rattle.arrays.specs.Prelude.{IsOfType, Item, Seen, boolean, codes_of, dictionary_of, encoded, int, int32, is_code, item_of, joined_items, list, looked_up, most_slots, null, shown, text}
 use Rattle.arrays.specs.Kind as kind
 use Rattle.select.specs.Joined.{IsEncoded, joined, joined_codes, joined_entries, shifted}
-use Rattle.arrays.specs.Lengths.{joined_items}
 use Rattle.arrays.proofs.DictionaryLemmas.{code-below, below-code}
 use Rattle.select.proofs.ListLemmas.{get_or-map-any}
-use Rattle.arrays.specs.Limits.{most_slots}
 
 pub encoded-is : (s : Seen) → s ≡ encoded (codes_of s) (dictionary_of s) → All (λ c. is_code (length s.entries.items) c ≡ true) s.codes → IsEncoded s
 encoded-is s is within = record { items = ap (λ (q : Seen). q.items) is; within = within }

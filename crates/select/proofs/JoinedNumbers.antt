@@ -11,23 +11,14 @@ use Rattle.std.proofs.lemmas.List.FromFn.{get_or-map-range_with_len, length-map-
 use Rattle.std.proofs.lemmas.List.Sums.{AllPass-from_list_all}
 use Rattle.std.proofs.lemmas.Nat.{row_fits}
 use Rattle.std.proofs.lemmas.Option.{get_or_from_slice_get}
-use Rattle.arrays.specs.IntType.{IntType}
+use Rattle.arrays.specs.Prelude.{HasNumbers, IntType, IsBufferOf, Item, Seen, bytes_of, int, is_null, joined_items, kept, null, number_at, show_numbers, shown, valid_at}
 use Rattle.arrays.proofs.EncodingLemmas.{number_at-append-front, number_at-append-past}
-use Rattle.arrays.specs.FromParts.{show_numbers}
 use Rattle.arrays.specs.Item as item
-use Rattle.arrays.specs.Item.{Item, null, int, is_null}
 use Rattle.arrays.specs.Kind as kind
-use Rattle.arrays.specs.Kind.{bytes_of}
-use Rattle.arrays.specs.Number.{number_at}
-use Rattle.arrays.specs.Packed.{IsBufferOf}
-use Rattle.arrays.specs.Seen.{Seen, valid_at}
-use Rattle.arrays.specs.Shown.{kept, shown}
-use Rattle.arrays.specs.Values.{HasNumbers}
 use Rattle.arrays.proofs.FinishedLemmas.{slot, slots_shown}
 use Rattle.arrays.proofs.PartLemmas.{item_slot}
 use Rattle.arrays.proofs.ValidityLemmas.{kept-ones}
 use Rattle.select.specs.Joined.{AreNumbersOf, IsPlace, TellsNulls, joined_valid}
-use Rattle.arrays.specs.Lengths.{joined_items}
 use Rattle.arrays.proofs.BuilderLemmas.{more_slots}
 use Rattle.select.proofs.JoinLemmas.{room-for}
 use Rattle.select.proofs.PickLemmas.{by_place}

@@ -10,19 +10,11 @@ use Rattle.std.proofs.lemmas.List.Sums.{sum_by-append, sum_by-take-le}
 use Rattle.std.proofs.lemmas.Grind.{flat_map-append}
 use Rattle.std.proofs.lemmas.Option.{get_or_from_slice_get}
 use Rattle.std.proofs.Math.Seq.{take-append_seam}
-use Rattle.arrays.specs.Slice.{slice}
-use Rattle.arrays.specs.Item.{Item, Items, null, int, boolean, text, list, list_of, items_of}
-use Rattle.arrays.specs.Lengths.{cut, inner_items, is_past, items_in, list_length, total}
-use Rattle.arrays.specs.Offsets.{of_slot}
-use Rattle.arrays.specs.Seen.{Seen, valid_in}
-use Rattle.arrays.specs.Values.{HasLists, IsRange, item_of_range}
+use Rattle.arrays.specs.Prelude.{HasLists, IsRange, Item, Items, Seen, boolean, cut, inner_items, int, is_past, item_of_range, items_in, items_of, list, list_length, list_of, null, of_slot, slice, text, total, valid_in}
 use Rattle.arrays.proofs.ListLemmas.{items_of-list_of, list_of-items_of}
 use Rattle.arrays.proofs.PartLemmas.{item_slot}
 use Rattle.select.specs.declared.fault.SelectFault.{SelectFault}
-use Rattle.select.specs.Children.{IsList}
-use Rattle.select.specs.Fault.{IsFull}
-use Rattle.select.specs.Picked.{picked, picked_at, IsPick}
-use Rattle.select.specs.Ranges.{rows_of}
+use Rattle.select.specs.Prelude.{IsFull, IsList, IsPick, picked, picked_at, rows_of}
 use Rattle.select.proofs.PickLemmas.{picked-more}
 use Rattle.arrays.proofs.CutLemmas.{past-more}
 

@@ -7,20 +7,12 @@ use Rattle.std.specs.Prelude.{slice_get}
 use Rattle.std.proofs.lemmas.Bool.Decides.{nat_tests}
 use Rattle.std.proofs.lemmas.List.FromFn.{get_or-map-range_with_len, length-map-range_with_len, map-range_with_len_more}
 use Rattle.std.proofs.lemmas.Option.{slice_get-get_or}
-use Rattle.arrays.specs.IntType.{IntType}
-use Rattle.arrays.specs.Dictionary.{is_code, looked_up}
-use Rattle.arrays.specs.Item.{Item, int}
-use Rattle.arrays.specs.Number.{natural}
-use Rattle.arrays.specs.Seen.{Seen}
-use Rattle.arrays.specs.Slot.{item_of}
-use Rattle.arrays.specs.Values.{HasNumbers, number_in}
-use Rattle.select.specs.Named.{NameRows, index_at, row_named, rows_named}
-use Rattle.select.specs.Picked.{IsPick, is_row, picked_at}
+use Rattle.arrays.specs.Prelude.{HasNumbers, IntType, Item, Seen, int, is_code, item_of, looked_up, most_slots, natural, number_in}
+use Rattle.select.specs.Prelude.{IsPick, NameRows, index_at, is_row, picked_at, row_named, rows_named}
 use Rattle.arrays.proofs.DictionaryLemmas.{code_row}
 use Rattle.select.proofs.PickLemmas.{number-row}
 use Rattle.select.proofs.RestLemmas.{below_all}
 use Rattle.select.proofs.SelectionLemmas.{Taken, Taken-more, Taken-none}
-use Rattle.arrays.specs.Limits.{most_slots}
 
 number_more : (n m : ℕ) (z : ℤ) → n ≤ m → is_code n (int z) ≡ true → is_code m (int z) ≡ true
 number_more n m (pos k) within h = grind (arith, nat_tests, h, within)

@@ -8,8 +8,7 @@ use Rattle.std.proofs.lemmas.List.{get_or_past, length-map, map-append}
 use Rattle.std.proofs.lemmas.List.Elements.{filter-append}
 use Rattle.std.proofs.lemmas.List.Sums.{length-filter}
 use Rattle.std.proofs.lemmas.Nat.Bits.{bit_at-trailing_zeros, bit_at-zero, bit_at_clear_other, bit_at_clear_same}
-use Rattle.arrays.specs.Bit.{bit_in}
-use Rattle.arrays.specs.Bitmap.{bit_of}
+use Rattle.arrays.specs.Prelude.{bit_in, bit_of}
 use Rattle.arrays.proofs.BitLemmas.{listed}
 use Rattle.select.specs.Picked.{is_row, ones_left, rows_of_ones, rows_where}
 use Rattle.select.proofs.ListLemmas.{get_or-map-any}

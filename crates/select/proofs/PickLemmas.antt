@@ -7,12 +7,7 @@ use Rattle.std.proofs.lemmas.Simd.{map-map}
 use Rattle.arrays.proofs.RangeLists.{map-range-below}
 use Rattle.std.proofs.lemmas.List.FromFn.{fill_by_all}
 use Rattle.std.proofs.lemmas.Option.{slice_get_within, get_or_from_slice_get}
-use Rattle.arrays.specs.IntType.{IntType}
-use Rattle.arrays.specs.Slot.{item_of}
-use Rattle.arrays.specs.Item.{Item, int}
-use Rattle.arrays.specs.Number.{number_at}
-use Rattle.arrays.specs.Seen.{Seen, valid_at}
-use Rattle.arrays.specs.Values.{HasNumbers, number_in}
+use Rattle.arrays.specs.Prelude.{HasNumbers, IntType, Item, Seen, int, item_of, number_at, number_in, valid_at}
 use Rattle.arrays.proofs.PartLemmas.{item_slot}
 use Rattle.arrays.proofs.SlotLemmas.{item_if}
 use Rattle.select.specs.Picked.{picked, picked_at}

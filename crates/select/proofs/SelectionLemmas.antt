@@ -9,20 +9,11 @@ use Rattle.std.proofs.lemmas.List.Elements.{All-append, filter-append}
 use Rattle.std.proofs.lemmas.List.FromFn.{get_or-map-range_with_len, length-map-range_with_len}
 use Rattle.std.proofs.lemmas.List.Sums.{position_or_len_is}
 use Rattle.std.proofs.lemmas.Option.{slice_get_within, slice_get-get_or, get_or_from_slice_get}
-use Rattle.arrays.specs.Bitmap.{bit_of}
-use Rattle.arrays.specs.IntType.{IntType}
+use Rattle.arrays.specs.Prelude.{HasBits, IntType, Item, Seen, bit_of, is_code, is_int, looked_up, null, same_kind, valid_at, valid_in}
 use Rattle.arrays.specs.Kind as kind
-use Rattle.arrays.specs.Kind.{same_kind}
 use Rattle.arrays.specs.Item as item
-use Rattle.arrays.specs.Item.{Item, null}
-use Rattle.arrays.specs.Dictionary.{is_code, looked_up}
-use Rattle.arrays.specs.Seen.{Seen, valid_at, valid_in}
-use Rattle.arrays.specs.Values.{HasBits}
 use Rattle.arrays.proofs.PartLemmas.{item_slot}
-use Rattle.select.specs.Masked.{AreTrue}
-use Rattle.select.specs.Picked.{picked, picked_at, rows_of_ones, rows_where, IsPick}
-use Rattle.select.specs.Selection.{filter_fault, indices_fault, is_true, kept, outside, take_fault, taken}
-use Rattle.arrays.specs.Slot.{is_int}
+use Rattle.select.specs.Prelude.{AreTrue, IsPick, filter_fault, indices_fault, is_true, kept, outside, picked, picked_at, rows_of_ones, rows_where, take_fault, taken}
 use Rattle.select.specs.declared.fault.SelectFault.TheVariants.{IndexOutOfRange, LengthsDiffer, WrongKind}
 use Rattle.select.proofs.PickLemmas.{take-one}
 use Rattle.select.proofs.OnesLemmas.{rows_where-more, rows_where-nothing}

@@ -2,11 +2,8 @@
 use Rattle.std.proofs.Common.{◌≡◌, ◌∙◌, inl, inr, ℕ, List, length, map, Bool, true, false, Option, Some, Result, Ok, Err, IfErr, IfOk, sym, true≢false}
 use Rattle.std.specs.List.{range_with_len}
 use Rattle.arrays.specs.Kind as kind
-use Rattle.arrays.specs.Kind.{same_kind}
-use Rattle.arrays.specs.Seen.{Seen}
-use Rattle.select.specs.Chosen.{chosen}
-use Rattle.select.specs.Fault.{IsFull}
-use Rattle.select.specs.Picked.{picked}
+use Rattle.arrays.specs.Prelude.{Seen, same_kind}
+use Rattle.select.specs.Prelude.{IsFull, chosen, picked}
 use Rattle.select.specs.declared.fault.SelectFault.{SelectFault}
 use Rattle.select.specs.declared.fault.SelectFault.TheVariants.{NoMemory}
 use Rattle.select.proofs.ChosenLemmas.{chosen-same}

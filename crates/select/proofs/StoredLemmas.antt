@@ -5,24 +5,15 @@ use Rattle.std.specs.List.{range_with_len}
 use borrow.Author.Count.{below_more}
 use Rattle.std.proofs.lemmas.List.FromFn.{get_or-map-range_with_len, length-map-range_with_len}
 use Rattle.std.proofs.lemmas.Nat.{row_fits}
-use Rattle.arrays.specs.IntType.{IntType}
+use Rattle.arrays.specs.Prelude.{HasNumbers, IntType, IsBufferOf, IsOfType, Item, Seen, bytes_of, bytes_of_number, int, kept, null, number_at, show_numbers, shown, valid_at}
 use Rattle.arrays.proofs.EncodingLemmas.{length-bytes_of_number, number_at-append-front, number_at-append-end}
-use Rattle.arrays.specs.FromParts.{show_numbers}
-use Rattle.arrays.specs.Item.{Item, null, int}
 use Rattle.arrays.specs.Kind as kind
-use Rattle.arrays.specs.Kind.{bytes_of}
-use Rattle.arrays.specs.Number.{number_at, IsOfType, bytes_of_number}
-use Rattle.arrays.specs.Packed.{IsBufferOf}
-use Rattle.arrays.specs.Seen.{Seen, valid_at}
-use Rattle.arrays.specs.Shown.{kept, shown}
-use Rattle.arrays.specs.Values.{HasNumbers}
 use Rattle.arrays.proofs.FinishedLemmas.{slot, slots_shown}
 use Rattle.arrays.proofs.PartLemmas.{item_slot}
 use Rattle.arrays.proofs.ValidityLemmas.{kept-places-ones}
 use Rattle.arrays.proofs.BuilderLemmas.{more_rows}
 use Rattle.std.proofs.lemmas.Option.{get_or_from_slice_get}
-use Rattle.select.specs.Picked.{picked, picked_at, is_row, IsPick}
-use Rattle.select.specs.Stored.{AreStored, is_stored}
+use Rattle.select.specs.Prelude.{AreStored, IsPick, is_row, is_stored, picked, picked_at}
 use Rattle.select.proofs.PickLemmas.{picked-by_place}
 
 -- ---- one number more

@@ -8,31 +8,14 @@ use Rattle.std.proofs.lemmas.List.Sums.{sum_by-cons, sum_by_push}
 use Rattle.std.proofs.lemmas.Option.{get_or_from_slice_get}
 use Rattle.std.proofs.lemmas.Simd.{map-map}
 use Rattle.std.proofs.Math.Seq.{take-append_seam}
-use Rattle.arrays.specs.OffsetWidth.{OffsetWidth}
-use Rattle.arrays.specs.OffsetWidths.{Narrow, Wide}
-use Rattle.arrays.specs.OffsetSize.{is_full, most_of, offset_type}
-use Rattle.arrays.specs.Number.{bytes_of_number}
-use Rattle.arrays.specs.FromParts.{AreTexts, show_texts}
-use Rattle.arrays.specs.Growing.{AreLaid, AreTextsOf, IsText, cut_texts}
-use Rattle.arrays.specs.Item.{Item, null, int, boolean, text, list}
+use Rattle.arrays.specs.Prelude.{AreLaid, AreOffsetBytes, AreTexts, AreTextsOf, HasTexts, IsBufferOf, IsText, Item, Narrow, OffsetWidth, Seen, Wide, boolean, bytes_of_number, cut_texts, int, is_full, is_past, is_validity_short, item_of_text, kept, list, most_of, most_slots, null, of_slot, offset_type, show_texts, shown, text, text_bytes, text_length, total, valid_in}
 use Rattle.arrays.specs.Kind as kind
-use Rattle.arrays.specs.Lengths.{is_past, text_bytes, text_length, total}
-use Rattle.arrays.specs.Offsets.{AreOffsetBytes, of_slot}
-use Rattle.arrays.specs.Packed.{IsBufferOf}
-use Rattle.arrays.specs.Seen.{Seen, valid_in}
-use Rattle.arrays.specs.Shown.{kept, shown}
-use Rattle.arrays.specs.Slot.{item_of_text}
-use Rattle.arrays.specs.Values.{HasTexts}
-use Rattle.arrays.specs.Fault.{is_validity_short}
 use Rattle.arrays.proofs.LaidLemmas.{fresh-none, grown, laid, lengths-none, shown-texts, texts-laid, total-fresh}
 use Rattle.arrays.proofs.PartLemmas.{item_slot}
-use Rattle.select.specs.Picked.{picked, picked_at, IsPick}
-use Rattle.select.specs.Stored.{is_stored}
-use Rattle.select.specs.Texts.{AreOffsetsOf, all_bytes, bytes_in, is_valid, text_size}
+use Rattle.select.specs.Prelude.{AreOffsetsOf, IsPick, all_bytes, bytes_in, is_stored, is_valid, picked, picked_at, text_size}
 use Rattle.select.proofs.BigLemmas.{full-picked}
 use Rattle.select.proofs.ListLemmas.{drop-front, get_or-map-any}
 use Rattle.select.proofs.PickLemmas.{by_place}
-use Rattle.arrays.specs.Limits.{most_slots}
 
 -- ---- one text more
 

@@ -4,7 +4,7 @@ use mir.Val.{bits as width}
 use Rattle.std.specs.Int.{Width, from_bool}
 use Rattle.std.specs.Int.Bits.{or_zero_r}
 use Rattle.std.proofs.Math.Nat.{zero-mod, zero-mul}
-use Rattle.arrays.specs.Bit.{bit_in}
+use Rattle.arrays.specs.Prelude.{bit_in}
 use Rattle.arrays.proofs.BitLemmas.{bits-set, bits-left}
 
 -- one more answer put into a word

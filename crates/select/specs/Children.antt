@@ -1,10 +1,8 @@
 -- The rows of the children that lists hold.
 use Rattle.std.specs.Prelude.{◌≡◌, ◌<◌, ◌≤◌, List, Some, length, false}
 use Rattle.std.specs.List.{All}
-use Rattle.arrays.specs.Item.{Item, null, list}
-use Rattle.arrays.specs.Kind.{Kind, dict, depth, item_kind, same_kind}
-use Rattle.arrays.specs.Lengths.{inner_items, joined_items}
-use Rattle.arrays.specs.Seen.{Seen}
+use Rattle.arrays.specs.Prelude.{Item, Kind, Seen, depth, inner_items, item_kind, joined_items, list, null, same_kind}
+use Rattle.arrays.specs.Kind.{dict}
 
 -- A list, or null.
 abbrev pub IsList : Item → Type 0

@@ -1,9 +1,7 @@
 -- What an array shows that has chosen items of a column.
 use Rattle.std.specs.Prelude.{List}
-use Rattle.arrays.specs.Item.{Item}
-use Rattle.arrays.specs.Kind.{Kind, dict}
-use Rattle.arrays.specs.Seen.{Seen}
-use Rattle.arrays.specs.Shown.{shown, validity_of}
+use Rattle.arrays.specs.Prelude.{Item, Kind, Seen, shown, validity_of}
+use Rattle.arrays.specs.Kind.{dict}
 
 -- Where the column is dictionary-encoded the codes are chosen in the same way, and its dictionary stays as it is.
 abbrev pub chosen : Kind → (List Item → List Item) → Seen → Seen

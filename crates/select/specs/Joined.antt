@@ -1,14 +1,8 @@
 -- Columns one after the other.
 use Rattle.std.specs.Prelude.{◌≡◌, ℕ, ◌+◌, ◌*◌, ◌<◌, ◌+ℤ◌, pos, ◌||◌, List, [], ◌∷◌, ◌++◌, map, flat_map, length, take, slice_index_or, Bool, true, false, not, Option, Some, None, if◌then◌else◌}
 use Rattle.std.specs.List.{All, list_all, range_with_len}
-use Rattle.arrays.specs.IntType.{IntType}
-use Rattle.arrays.specs.Dictionary.{entries_shown, is_code, looked_up}
-use Rattle.arrays.specs.Item.{Item, int, is_null, null}
-use Rattle.arrays.specs.Kind.{Kind, bytes_of, dict, same_kind, utf8}
-use Rattle.arrays.specs.Lengths.{is_past, is_too_big, joined_items}
-use Rattle.arrays.specs.Number.{number_at}
-use Rattle.arrays.specs.Seen.{Seen, valid_at}
-use Rattle.arrays.specs.Shown.{shown, validity_of}
+use Rattle.arrays.specs.Prelude.{IntType, Item, Kind, Seen, bytes_of, entries_shown, int, is_code, is_null, is_past, is_too_big, joined_items, looked_up, null, number_at, same_kind, shown, utf8, valid_at, validity_of}
+use Rattle.arrays.specs.Kind.{dict}
 use Rattle.select.specs.declared.fault.SelectFault.{SelectFault}
 use Rattle.select.specs.declared.fault.SelectFault.TheVariants.{TypesDiffer}
 

@@ -9,3 +9,4 @@ pub mod Children
 pub mod Named
 pub mod Masked
 pub mod Texts
+pub mod Prelude

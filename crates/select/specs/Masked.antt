@@ -1,7 +1,6 @@
 -- Bits of a mask.
 use Rattle.std.specs.Prelude.{◌≡◌, ℕ, List, Bool, length, slice_index_or}
-use Rattle.arrays.specs.Bitmap.{bit_of}
-use Rattle.arrays.specs.Item.{Item, null}
+use Rattle.arrays.specs.Prelude.{Item, bit_of, null}
 use Rattle.select.specs.Selection.{is_true}
 
 -- There is a bit for each slot of the mask: 1 where it is true, 0 where it is false or null.

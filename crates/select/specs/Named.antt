@@ -1,12 +1,7 @@
 -- Rows that indices name.
 use Rattle.std.specs.Prelude.{◌≡◌, ℕ, ◌<◌, List, Bool, map, true, false, Option, option_map}
 use Rattle.std.specs.List.{range_with_len}
-use Rattle.arrays.specs.IntType.{IntType}
-use Rattle.arrays.specs.Dictionary.{is_code}
-use Rattle.arrays.specs.Item.{Item}
-use Rattle.arrays.specs.Number.{natural}
-use Rattle.arrays.specs.Slot.{item_of}
-use Rattle.arrays.specs.Values.{number_in}
+use Rattle.arrays.specs.Prelude.{IntType, Item, is_code, item_of, natural, number_in}
 
 -- Index j, null where its slot isn't valid.
 abbrev pub index_at : IntType → List ℕ → Option (List Bool) → ℕ → Item

@@ -1,9 +1,7 @@
 -- Rows that are picked, one for each slot of a result.
 use Rattle.std.specs.Prelude.{ℕ, ◌+◌, ◌-◌, ◌*◌, ◌<◌, ◌==◌, ◌++◌, List, map, filter, length, Bool, true, false, Option, Some, None, slice_index_or, if◌then◌else◌}
 use Rattle.std.specs.List.{range_with_len}
-use Rattle.arrays.specs.Bit.{bit_in}
-use Rattle.arrays.specs.Bitmap.{bit_of}
-use Rattle.arrays.specs.Item.{Item, null}
+use Rattle.arrays.specs.Prelude.{Item, bit_in, bit_of, null}
 
 -- The item of the row that is picked, null where none is.
 abbrev pub picked_at : List Item → Option ℕ → Item

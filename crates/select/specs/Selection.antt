@@ -1,12 +1,8 @@
 -- Selection: the items at indices, and those where a mask is true.
 use Rattle.std.specs.Prelude.{ℕ, ◌==◌, List, map, filter, zip, length, position, Bool, false, not, Option, Some, None, option_map, if◌then◌else◌}
 use Rattle.arrays.specs.Item as item
-use Rattle.arrays.specs.Item.{Item}
+use Rattle.arrays.specs.Prelude.{Item, Seen, is_code, is_int, looked_up, same_kind}
 use Rattle.arrays.specs.Kind as kind
-use Rattle.arrays.specs.Kind.{same_kind}
-use Rattle.arrays.specs.Dictionary.{is_code, looked_up}
-use Rattle.arrays.specs.Seen.{Seen}
-use Rattle.arrays.specs.Slot.{is_int}
 use Rattle.select.specs.declared.fault.SelectFault.{SelectFault}
 use Rattle.select.specs.declared.fault.SelectFault.TheVariants.{WrongKind, LengthsDiffer, IndexOutOfRange}
 

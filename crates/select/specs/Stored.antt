@@ -1,9 +1,6 @@
 -- Numbers as they lie in a column.
 use Rattle.std.specs.Prelude.{◌≡◌, ℕ, ◌*◌, ◌<◌, List, Bool, false, length, Option, Some, None, IfSome, slice_index_or}
-use Rattle.arrays.specs.IntType.{IntType}
-use Rattle.arrays.specs.Kind.{bytes_of}
-use Rattle.arrays.specs.Number.{number_at}
-use Rattle.arrays.specs.Seen.{valid_in}
+use Rattle.arrays.specs.Prelude.{IntType, bytes_of, number_at, valid_in}
 
 -- Whether a row is picked, and its slot is valid.
 abbrev pub is_stored : Option (List Bool) → Option ℕ → Bool

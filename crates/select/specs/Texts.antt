@@ -1,8 +1,6 @@
 -- Texts one after the other.
 use Rattle.std.specs.Prelude.{◌≡◌, ℕ, List, [], Bool, length, map, flat_map, not, Option, Some, None}
-use Rattle.arrays.specs.OffsetWidth.{OffsetWidth}
-use Rattle.arrays.specs.Growing.{AreFresh, lengths_where}
-use Rattle.arrays.specs.Item.{Item, is_null, text}
+use Rattle.arrays.specs.Prelude.{AreFresh, Item, OffsetWidth, is_null, lengths_where, text}
 
 -- Whether a slot holds an item.
 abbrev pub is_valid : Item → Bool

@@ -1,9 +1,8 @@
 //! The rows of a view where a mask is true.
 
 ghost use Rattle.std.specs.Prelude.{◌≡◌, ◌<◌, ◌&&◌, None, length, IfErr, IfOk};
-ghost use Rattle.arrays.specs.Bitmap.{bit_of};
+ghost use Rattle.arrays.specs.Prelude.{bit_of, is_too_big};
 ghost use Rattle.arrays.specs.Kind as kind;
-ghost use Rattle.arrays.specs.Lengths.{is_too_big};
 ghost use Rattle.select.specs.Chosen.{chosen};
 ghost use Rattle.select.specs.Fault.{IsFull, IsSelectFault};
 ghost use Rattle.select.specs.Masked.{AreTrue};

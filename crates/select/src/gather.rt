@@ -3,9 +3,7 @@
 ghost use Rattle.std.specs.Prelude.{◌≡◌, IfErr, IfOk, length, false, true};
 ghost use Rattle.std.specs.List.{All};
 ghost use Rattle.arrays.specs.Kind as kind;
-ghost use Rattle.arrays.specs.Kind.{same_kind};
-ghost use Rattle.arrays.specs.Slot.{is_list};
-ghost use Rattle.arrays.specs.Lengths.{is_too_big};
+ghost use Rattle.arrays.specs.Prelude.{is_list, is_too_big, same_kind};
 ghost use Rattle.select.specs.Chosen.{chosen};
 ghost use Rattle.select.specs.Fault.{IsFull};
 ghost use Rattle.select.specs.Picked.{IsPick, picked};

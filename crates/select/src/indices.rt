@@ -2,14 +2,11 @@
 
 ghost use Rattle.std.specs.Prelude.{◌≡◌, ◌≤◌, List, drop, option_map, IfErr, IfNone, IfOk, IfSome, Some};
 ghost use Rattle.std.specs.List.{All};
-ghost use Rattle.arrays.specs.Dictionary.{is_code};
-ghost use Rattle.arrays.specs.Item.{Item};
+ghost use Rattle.arrays.specs.Prelude.{Item, is_code, item_of, most_slots};
 ghost use Rattle.arrays.specs.Kind as kind;
-ghost use Rattle.arrays.specs.Slot.{item_of};
 ghost use Rattle.select.specs.Named.{IsLeastOutside, NameRows, rows_named};
 ghost use Rattle.select.specs.Picked.{IsPick, picked};
 ghost use Rattle.select.specs.Selection.{outside, taken};
-ghost use Rattle.arrays.specs.Limits.{most_slots};
 
 use crate::fault::SelectFault;
 use crate::rows::{Place, Rows};
@@ -23,7 +20,7 @@ pub(crate) struct Indices<'a, T: Integer> {
 }
 
 impl<'a, T: Integer> Model for Indices<'a, T> {
-    ghost use Rattle.arrays.specs.Limits.{most_slots};
+    ghost use Rattle.arrays.specs.Prelude.{most_slots};
     ghost use Rattle.std.specs.Prelude.{ℕ, List, Option};
     ghost use Rattle.select.specs.Named.{NameRows, rows_named};
 

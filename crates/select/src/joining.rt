@@ -2,13 +2,9 @@
 
 ghost use Rattle.std.specs.Prelude.{◌≡◌, ◌≤◌, None, length, true, IfErr, IfNone, IfOk, IfSome};
 ghost use Rattle.std.specs.List.{All, list_all};
-ghost use Rattle.arrays.specs.Kind.{same_kind};
-ghost use Rattle.arrays.specs.Lengths.{is_past, joined_items};
-ghost use Rattle.arrays.specs.Seen.{Seen};
-ghost use Rattle.arrays.specs.ViewType.{view_kind};
+ghost use Rattle.arrays.specs.Prelude.{Seen, is_past, joined_items, most_slots, same_kind, view_kind};
 ghost use Rattle.select.specs.Fault.{IsFull, IsSelectFault};
 ghost use Rattle.select.specs.Joined.{concat_fault, is_content_too_big, is_joined_too_big, joined, kind_of_first};
-ghost use Rattle.arrays.specs.Limits.{most_slots};
 
 mod bools;
 mod dicts;

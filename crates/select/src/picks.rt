@@ -2,9 +2,8 @@
 
 ghost use Rattle.std.specs.Prelude.{◌≡◌, ℕ, ◌+◌, ◌<◌, ◌≤◌, [], ◌∷◌, ◌++◌, None, Some, drop, map, length, slice_get, true, IfErr, IfSome, OnErr, OnOk};
 ghost use Rattle.std.specs.List.{range_with_len};
-ghost use Rattle.arrays.specs.Lengths.{is_past};
+ghost use Rattle.arrays.specs.Prelude.{is_past, most_slots};
 ghost use Rattle.select.specs.Fault.{IsFull};
-ghost use Rattle.arrays.specs.Limits.{most_slots};
 
 use crate::fault::SelectFault;
 use crate::rows::{Place, Rows};
@@ -22,7 +21,7 @@ pub(crate) struct Picks {
 }
 
 impl Model for Picks {
-    ghost use Rattle.arrays.specs.Limits.{most_slots};
+    ghost use Rattle.arrays.specs.Prelude.{most_slots};
     ghost use Rattle.std.specs.Prelude.{ℕ, ◌≤◌, List, Option, map, length};
     ghost use Rattle.select.specs.Picked.{pick_of};
 

@@ -2,7 +2,7 @@
 
 ghost use Rattle.std.specs.Prelude.{◌≡◌, ℕ, ◌<◌, ◌≤◌, ◌∷◌, None, true, drop, length, slice_index_or, Some, IsTrue};
 ghost use Rattle.select.specs.Picked.{first_rows, is_row};
-ghost use Rattle.arrays.specs.Limits.{most_slots};
+ghost use Rattle.arrays.specs.Prelude.{most_slots};
 
 /// How far rows are given.
 #[derive(Clone, Copy)]

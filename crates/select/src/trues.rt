@@ -2,7 +2,7 @@
 
 ghost use Rattle.std.specs.Prelude.{◌≡◌, ◌<◌, ◌≤◌, true, count_by, length};
 ghost use Rattle.select.specs.Picked.{ones_left, rows_of_ones};
-ghost use Rattle.arrays.specs.Limits.{most_slots};
+ghost use Rattle.arrays.specs.Prelude.{most_slots};
 
 use crate::rows::{Place, Rows};
 use arrays::Bits;

@@ -4,11 +4,9 @@ use Rattle.std.proofs.lemmas.List.Elements.{All-get_or}
 use Rattle.std.proofs.lemmas.Option.{get_or_from_slice_get, slice_get-map, slice_get_within}
 use Rattle.std.specs.Prelude.{All}
 use Rattle.arrays.specs.Batch.{Batch, Table, rows_of}
-use Rattle.intake.specs.Lent.{LendsColumns}
-use Rattle.intake.specs.Node.{Node}
-use Rattle.embed.specs.Contents.{Contents}
+use Rattle.intake.specs.Prelude.{LendsColumns, Node}
+use Rattle.embed.specs.Prelude.{Contents, IsStored, NamesFronts}
 use Rattle.embed.specs.History as history
-use Rattle.embed.specs.Lawful.{IsStored, NamesFronts}
 use Rattle.selqumar.specs.Lent.{IsLent}
 
 all_at : {A : Type 0} (P : A → Type 0) (xs : List A) (i : ℕ) (x : A) → slice_get xs i ≡ Some x → All P xs → P x

@@ -3,12 +3,7 @@ use Rattle.std.proofs.Common.{◌≡◌, ◌⊎◌, inl, inr, ℕ, List, Result,
 use Rattle.std.proofs.Math.Logic.{⊎_map}
 use Rattle.std.specs.declared.alloc.Global.{Global}
 use Rattle.std.specs.declared.string.String.{String}
-use Rattle.embed.specs.Answer.{PrintsAnswer, StopsAnswer}
-use Rattle.embed.specs.Contents.{Contents}
-use Rattle.embed.specs.Loaded.{HoldsFiles}
-use Rattle.embed.specs.Output.{IsAnswered, StopsQuery}
-use Rattle.embed.specs.RunFault.{RunFault}
-use Rattle.embed.specs.RunFaults.{NoMemory}
+use Rattle.embed.specs.Prelude.{Contents, HoldsFiles, IsAnswered, NoMemory, PrintsAnswer, RunFault, StopsAnswer, StopsQuery}
 use Rattle.selqumar.specs.Status.{IsLine, IsTextOf, Leaves}
 
 other_side : (A B : Type 0) → (A → ⊥) → A ⊎ B → B

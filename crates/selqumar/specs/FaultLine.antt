@@ -1,6 +1,6 @@
 -- What a call tells of a fault that fills a table or changes it.
 use Rattle.std.specs.Prelude.{◌≡◌, ℕ, List, Bool, true, false}
-use Rattle.embed.specs.Line.{message}
+use Rattle.embed.specs.Prelude.{message}
 use Rattle.intake.specs.FlatFaults as flat
 use Rattle.intake.specs.declared.fault.IntakeFault.{IntakeFault}
 use Rattle.intake.specs.declared.fault.IntakeFault.TheVariants.{Column, Flat, Refused}

@@ -1,11 +1,6 @@
 -- What is open in a handle.
 use Rattle.std.specs.Prelude.{◌≡◌, ◌≢◌, ◌⊎◌, ℕ, List, Option, None, Some}
-use Rattle.embed.specs.Contents.{Contents}
-use Rattle.embed.specs.Exported.{exported}
-use Rattle.embed.specs.Shown.{stats_text}
-use Rattle.embed.specs.RunFault.{RunFault}
-use Rattle.embed.specs.Answer.{PrintsAnswer, StopsAnswer}
-use Rattle.embed.specs.Loaded.{HoldsFiles}
+use Rattle.embed.specs.Prelude.{Contents, HoldsFiles, PrintsAnswer, RunFault, StopsAnswer, exported, stats_text}
 use Rattle.selqumar.specs.Status.{IsClosed, Leaves}
 use Rattle.selqumar.specs.declared.pointee.Pointee.{Pointee}
 use Rattle.selqumar.specs.declared.pointee.Pointee.TheVariants.{Table, Snapshot}

@@ -1,11 +1,9 @@
 -- The nodes that a snapshot lends.
 use Rattle.std.specs.Prelude.{◌≡◌, ℕ, List, [], Some, slice_get}
 use Rattle.arrays.specs.Batch.{Batch, rows_of}
-use Rattle.intake.specs.Lent.{LendsColumns}
-use Rattle.intake.specs.Node.{Node}
-use Rattle.embed.specs.Contents.{Contents}
+use Rattle.intake.specs.Prelude.{LendsColumns, Node}
+use Rattle.embed.specs.Prelude.{Contents, IsStored, NamesFronts}
 use Rattle.embed.specs.History as history
-use Rattle.embed.specs.Lawful.{IsStored, NamesFronts}
 
 -- They are the columns of a batch of the fields, one after the other, over the parts of lawful arrays that show it. Its rows are those of the batch of this number, and its dictionaries begin those of
 -- the whole table, so that a code means the same text in each batch.

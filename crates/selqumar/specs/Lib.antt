@@ -6,3 +6,4 @@ pub mod Handle
 pub mod Lent
 pub mod Slot
 pub mod Status
+pub mod Prelude

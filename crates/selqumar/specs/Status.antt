@@ -2,9 +2,7 @@
 use Rattle.std.specs.Prelude.{◌≡◌, ◌≢◌, ◌⊎◌, ◌<◌, ◌≤◌, ◌++◌, ℕ, List, [], Option, None, Result, Ok, drop, length, string_bytes}
 use Rattle.std.specs.declared.alloc.Global.{Global}
 use Rattle.std.specs.declared.string.String.{String}
-use Rattle.embed.specs.RunFault.{RunFault}
-use Rattle.embed.specs.RunFaults.{NoMemory}
-use Rattle.embed.specs.Output.{AreLoadable, line_of_fault}
+use Rattle.embed.specs.Prelude.{AreLoadable, NoMemory, RunFault, line_of_fault}
 
 -- The items are at the front of the buffer, whose rest stayed as it was.
 pub record IsWritten {A : Type 0} (items old new : List A) (needed : ℕ) : Type 0 where

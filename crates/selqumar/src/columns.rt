@@ -1,6 +1,6 @@
 //! The columns of a snapshot, lent.
 ghost use Rattle.std.specs.Prelude.{◌≡◌, ◌≢◌, ◌≤◌, [], length};
-ghost use Rattle.intake.specs.Schema.{Names};
+ghost use Rattle.intake.specs.Prelude.{Names};
 ghost use Rattle.selqumar.specs.Handle.{Asks, OfOpen, snapshot_in};
 ghost use Rattle.selqumar.specs.Lent.{IsLent, IsLentOf};
 ghost use Rattle.selqumar.specs.Status.{HasNoRoom, IsClosed, IsGiven, IsKept, Leaves, Never};

@@ -1,6 +1,6 @@
 //! Faults of tables that are filled, as lines in the caller's buffer.
 ghost use Rattle.std.specs.Prelude.{◌≡◌, ◌≢◌, ◌≤◌, Err, IfOk, IsErr, IsOk, List, OnOk, false, string_bytes, ℕ};
-ghost use Rattle.embed.specs.Line.{message};
+ghost use Rattle.embed.specs.Prelude.{message};
 ghost use Rattle.selqumar.specs.Status.{IsNothing, Leaves, Never};
 ghost use Rattle.selqumar.specs.FaultLine.{IsFaultLine, wants_memory};
 

@@ -4,7 +4,7 @@ ghost use Rattle.intake.specs.Filling.{IsAppended, IsEmptyOf, IsWidened, StopsAp
 ghost use Rattle.selqumar.specs.Handle.{Asks, Became, OfOpen, table_in};
 ghost use Rattle.selqumar.specs.Status.{IsNothing, Leaves, Never};
 ghost use Rattle.selqumar.specs.FaultLine.{IsFaultLine};
-ghost use Rattle.embed.specs.Compacted.{IsCompacted};
+ghost use Rattle.embed.specs.Prelude.{IsCompacted};
 
 use crate::fault_line::{put_fault, put_outcome};
 use crate::handle::Handle;

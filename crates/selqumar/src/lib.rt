@@ -12,8 +12,7 @@
 #![tactic(auto)]
 
 ghost use Rattle.std.specs.Prelude.{◌≤◌, map};
-ghost use Rattle.embed.specs.Output.{IsAnswered, IsExport, IsStats, StopsQuery};
-ghost use Rattle.embed.specs.Refused.{StopsTexts};
+ghost use Rattle.embed.specs.Prelude.{IsAnswered, IsExport, IsStats, StopsQuery, StopsTexts};
 ghost use Rattle.selqumar.specs.Status.{IsLine, IsValid, Leaves};
 
 mod boxed;

@@ -1,7 +1,6 @@
 //! Calls on a table that stays open between them.
 ghost use Rattle.std.specs.Prelude.{◌≡◌, ◌≢◌, ◌⊎◌, ◌≤◌, List, None, Some, map, ℕ};
-ghost use Rattle.embed.specs.Output.{IsAnswered, IsExport, IsStats, StopsQuery};
-ghost use Rattle.embed.specs.Refused.{StopsTexts};
+ghost use Rattle.embed.specs.Prelude.{IsAnswered, IsExport, IsStats, StopsQuery, StopsTexts};
 ghost use Rattle.selqumar.specs.Handle.{Asks, IsAnswerOf, IsExportOf, IsOpenOver, IsStatsOf, StopsAnswerOf, table_in};
 ghost use Rattle.selqumar.specs.Status.{IsLine, IsNothing, Leaves, Never};
 

@@ -1,14 +1,9 @@
 -- Why a query's text has no answer, by what its reader and its answer say.
 use Rattle.std.proofs.Common.{◌≡◌, ◌⊎◌, inl, inr, ℕ, List, Err, subst, sym}
 use Rattle.std.specs.Prelude.{IsOk}
-use Rattle.shared.specs.Answers.{IsRefusal}
-use Rattle.arrays.specs.Batch.{Table}
-use Rattle.arrays.specs.Shape.{FieldShape}
-use Rattle.arrow_json.specs.QueryDocument.{ReadsQueryText}
-use Rattle.shared.specs.QueryShape.{QueryShape}
-use Rattle.shared.specs.Resolved.{resolved}
-use Rattle.shared.specs.QueryFault.{QueryFault}
-use Rattle.shared.specs.QueryFaults.{NoMemory}
+use Rattle.shared.specs.Prelude.{IsRefusal, NoMemory, QueryFault, QueryShape, resolved}
+use Rattle.arrays.specs.Prelude.{FieldShape, Table}
+use Rattle.arrow_json.specs.Prelude.{ReadsQueryText}
 use Rattle.selqumar_core.specs.Asked.{ReadsPlaced, IsAskRefusal, at_row, under_fields}
 
 pub refused_by_fields : (bytes : List ℕ) (fields : List FieldShape) (t : Table) (query : QueryShape (List ℕ)) (f : QueryFault) → ReadsQueryText bytes query

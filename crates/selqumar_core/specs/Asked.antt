@@ -1,16 +1,8 @@
 -- What a query's text asks of rows, and why it has no answer.
 use Rattle.std.specs.Prelude.{◌≡◌, ℕ, List, Ok, Err, ⊤}
-use Rattle.shared.specs.Answers.{IsAnswer}
-use Rattle.shared.specs.Groups.{groups}
-use Rattle.shared.specs.Answer.{Answer}
-use Rattle.arrays.specs.Batch.{Table}
-use Rattle.arrays.specs.Shape.{FieldShape}
-use Rattle.arrow_json.specs.QueryDocument.{ReadsQueryText}
-use Rattle.arrow_json.specs.QueryDocumentFault.{QueryBytesFault}
-use Rattle.shared.specs.QueryShape.{QueryShape}
-use Rattle.shared.specs.Resolved.{resolved}
-use Rattle.shared.specs.QueryFault.{QueryFault}
-use Rattle.shared.specs.QueryFaults.{Overflow}
+use Rattle.shared.specs.Prelude.{Answer, IsAnswer, Overflow, QueryFault, QueryShape, groups, resolved}
+use Rattle.arrays.specs.Prelude.{FieldShape, Table}
+use Rattle.arrow_json.specs.Prelude.{QueryBytesFault, ReadsQueryText}
 use Rattle.selqumar_core.specs.declared.fault.Fault.{Fault}
 use Rattle.selqumar_core.specs.declared.fault.Fault.TheVariants as fault
 

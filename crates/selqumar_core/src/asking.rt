@@ -1,10 +1,8 @@
 //! Queries as texts, over what a table holds.
 
 ghost use Rattle.std.specs.Prelude.{◌≡◌, IfErr, IfOk, true};
-ghost use Rattle.shared.specs.FirstFault.{fits};
-ghost use Rattle.shared.specs.QueryShape.{query_shape};
+ghost use Rattle.shared.specs.Prelude.{fits, query_shape, rows};
 ghost use Rattle.selqumar_core.specs.Asked.{IsAsked, ReadsPlaced, IsUnasked};
-ghost use Rattle.shared.specs.History.{rows};
 
 use crate::fault::Fault;
 use arrow_json::{JsonFaultKind, read_query};

@@ -1,15 +1,10 @@
 -- A history with one pair more.
 use Rattle.std.proofs.Common.{◌≡◌, ℕ, ◌+◌, ◌<◌, List, ◌∷◌, ◌++◌, [], length, ◌∙◌, ap, sym, subst, arith, length-append}
 use Rattle.std.proofs.lemmas.List.Elements.{All-map, All-push}
-use Rattle.arrays.specs.Batch.{Batch, rows_of, Table}
-use Rattle.arrays.specs.Shape.{FieldShape}
-use Rattle.shared.specs.Balance.{IsBalanced, IsOfWorkers, ShowsKnown}
-use Rattle.shared.specs.Changes.{Change, field_added, known_after}
-use Rattle.shared.specs.Known.{Known}
+use Rattle.arrays.specs.Prelude.{Batch, FieldShape, Table, rows_of}
+use Rattle.shared.specs.Prelude.{Change, IsBalanced, IsOfWorkers, Known, ShowsKnown, field_added, known_after}
 use Rattle.shared.proofs.KnownLemmas.{known_widened}
-use Rattle.table.specs.Contents.{Contents}
-use Rattle.table.specs.History.{History, rows}
-use Rattle.table.specs.Widened.{widened, widened_table, with_last_field}
+use Rattle.table.specs.Prelude.{Contents, History, rows, widened, widened_table, with_last_field}
 use Rattle.arrays.proofs.BatchLemmas.{length-rows_of}
 use Rattle.table.proofs.HistoryLemmas.{rows-push}
 use Rattle.table.proofs.WidenedLemmas.{length-table, length-widened, rows-widened}

@@ -3,9 +3,8 @@ use Rattle.std.proofs.Common.{◌≡◌, ◌∙◌, ℕ, zero, suc, ◌++◌, �
 use Rattle.std.specs.Prelude.{◌==◌, ◌||◌, nat_lt}
 use Rattle.std.proofs.lemmas.Bool.{false≢true}
 use Rattle.std.proofs.lemmas.Bool.Decides.{nat_tests}
-use Rattle.arrays.specs.Shape.{FieldShape}
-use Rattle.shared.specs.Hand.{AreNew, Hand, IsNew}
-use Rattle.shared.specs.Missing.{AllThere, is_there}
+use Rattle.arrays.specs.Prelude.{FieldShape}
+use Rattle.shared.specs.Prelude.{AllThere, AreNew, Hand, IsNew, is_there}
 
 abbrev count_below : ℕ → List Hand → ℕ
 count_below n [] = 0

@@ -4,15 +4,10 @@ use Rattle.std.proofs.lemmas.List.{append-nil}
 use Rattle.std.proofs.lemmas.List.Elements.{filter_map-append}
 use Rattle.std.specs.Prelude.{All}
 use mathlib.Core.List.{IsPrefix}
-use Rattle.arrays.specs.Batch.{Batch, Table, rows_of}
-use Rattle.arrays.specs.Shape.{FieldShape}
+use Rattle.arrays.specs.Prelude.{Batch, FieldShape, Table, rows_of}
 use Rattle.histories.proofs.PrefixLemmas.{prefix_length, prefix_self, prefix_trans}
-use Rattle.shared.specs.Changes.{Change, field_added, added_field, fields_after, fields_in, known_after, pair_added, pair_in, pairs_in}
-use Rattle.shared.specs.Known.{IsBeginning, IsLegalKnown, Known, known_of, with_column}
-use Rattle.table.specs.Cause.{IsLegal, IsTableOf}
-use Rattle.table.specs.Contents.{Contents, admitted}
-use Rattle.table.specs.History.{History}
-use Rattle.table.specs.Widened.{widened, widened_table, with_last_field}
+use Rattle.shared.specs.Prelude.{Change, IsBeginning, IsLegalKnown, Known, added_field, field_added, fields_after, fields_in, known_after, known_of, pair_added, pair_in, pairs_in, with_column}
+use Rattle.table.specs.Prelude.{Contents, History, IsLegal, IsTableOf, admitted, widened, widened_table, with_last_field}
 use Rattle.table.proofs.WidenedLemmas.{long-typed, prefix-widened, table-long, table-wide, widened-again, widened-append}
 
 -- ---- what is known after changes

@@ -10,13 +10,8 @@ use Rattle.arrays.specs.Batch.{Table}
 use Rattle.histories.proofs.PrefixLemmas.{prefix_length}
 use Rattle.shared.proofs.HandLemmas.{count_of, some as some_of}
 use Rattle.shared.proofs.KnownLemmas.{begins_trans}
-use Rattle.shared.specs.Balance.{IsOfWorkers}
-use Rattle.shared.specs.Hand.{Hand, IsWorkerOf, HasAllItsPairs, calls_of_hand}
-use Rattle.shared.specs.Known.{IsBeginning, Known}
-use Rattle.shared.specs.Missing.{AllThere}
-use Rattle.shared.specs.Parts.{InOrder, sum_below}
-use Rattle.table.specs.History.{History, of}
-use Rattle.table.specs.Widened.{widened, widened_table}
+use Rattle.shared.specs.Prelude.{AllThere, Hand, HasAllItsPairs, InOrder, IsBeginning, IsOfWorkers, IsWorkerOf, Known, calls_of_hand, sum_below}
+use Rattle.table.specs.Prelude.{History, of, widened, widened_table}
 use Rattle.table.proofs.WidenedLemmas.{length-widened, of-widened, widened-again}
 
 -- ---- items in their order

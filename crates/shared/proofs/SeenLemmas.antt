@@ -4,20 +4,12 @@ use Rattle.std.specs.Prelude.{MatchBool, is_some, option_map}
 use Rattle.std.specs.Bool.{then_some}
 use Rattle.std.specs.Result.{MatchResult, result_ok}
 use Rattle.std.proofs.lemmas.Bool.Decides.{nat_tests}
-use Rattle.arrays.specs.Batch.{Batch, rows_of}
-use Rattle.arrays.specs.First.{first}
-use Rattle.arrays.specs.Shape.{FieldShape}
-use Rattle.shared.specs.Balance.{IsOfWorkers, ShowsKnown}
-use Rattle.shared.specs.Hand.{Hand, HasAdded, HasSeen, HasWidened, HasAddedNothing, IsRaised, calls_of_hand, having_added, having_counted, having_seen, rows_of_hand}
-use Rattle.shared.specs.Known.{IsBeginning, IsLegalKnown, Known, known_of, with_column}
+use Rattle.arrays.specs.Prelude.{Batch, FieldShape, first, rows_of}
+use Rattle.shared.specs.Prelude.{Hand, HasAdded, HasAddedNothing, HasSeen, HasWidened, IsBeginning, IsLegalKnown, IsOfWorkers, IsRaised, Known, ShowsKnown, calls_of_hand, having_added, having_counted, having_seen, known_of, rows_of_hand, with_column}
 use Rattle.shared.proofs.BalanceLemmas.{rows_pushed, rows_widened}
-use Rattle.table.specs.Cause.{IsLegal, batch_cause, difference, is_book_full, is_table_full, null_cause, texts_cause}
-use Rattle.table.specs.Compacted.{IsCompacted}
-use Rattle.table.specs.Contents.{Contents, admitted}
-use Rattle.table.specs.History.{History, rows}
+use Rattle.table.specs.Prelude.{Contents, History, IsCompacted, IsLegal, admitted, batch_cause, difference, is_book_full, is_table_full, null_cause, rows, texts_cause, widened, with_last_field}
 use Rattle.table.specs.declared.refusal.Refusal.{Refusal}
 use Rattle.table.specs.declared.refusal.Refusal.TheVariants.{BookFull, SchemaDiffers, TableFull}
-use Rattle.table.specs.Widened.{widened, with_last_field}
 use Rattle.arrays.proofs.BatchLemmas.{length-rows_of}
 use Rattle.table.proofs.WidenedLemmas.{length-widened, widened-again}
 

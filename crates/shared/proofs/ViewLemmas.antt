@@ -1,18 +1,11 @@
 -- What a worker shows when it has seen more, and when it has added a pair.
 use Rattle.std.proofs.Common.{◌≡◌, ◌∙◌, ℕ, ◌<◌, ◌≤◌, List, [], ◌∷◌, ◌++◌, length, Option, ap, sym, subst, arith}
-use Rattle.arrays.specs.Batch.{Table}
-use Rattle.arrays.specs.Shape.{FieldShape}
+use Rattle.arrays.specs.Prelude.{FieldShape, Table}
 use Rattle.histories.proofs.PrefixLemmas.{prefix_length}
 use Rattle.shared.proofs.KnownLemmas.{begins_self, last_typed, pairs_more, wide_again}
 use Rattle.shared.proofs.PartLemmas.{part_pushed}
-use Rattle.shared.specs.Changes.{Change, fields_after, known_after, pair_added, pairs_in}
-use Rattle.shared.specs.Hand.{Hand, IsWorkerOf, having_added, having_seen}
-use Rattle.shared.specs.Known.{IsBeginning, IsLegalKnown, Known}
-use Rattle.shared.specs.Left.{Left}
-use Rattle.shared.specs.Parts.{InOrder}
-use Rattle.table.specs.Cause.{IsTableOf}
-use Rattle.table.specs.History.{History, of}
-use Rattle.table.specs.Widened.{widened}
+use Rattle.shared.specs.Prelude.{Change, Hand, InOrder, IsBeginning, IsLegalKnown, IsWorkerOf, Known, Left, fields_after, having_added, having_seen, known_after, pair_added, pairs_in}
+use Rattle.table.specs.Prelude.{History, IsTableOf, of, widened}
 use Rattle.table.proofs.WidenedLemmas.{widened-again, widened-append}
 
 -- the worker with these changes seen and these added

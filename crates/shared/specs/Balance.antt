@@ -1,9 +1,8 @@
 -- How a table's history stands to its workers.
 use Rattle.std.specs.Prelude.{◌≡◌, ℕ, ◌+◌, ◌<◌, All, List, length}
-use Rattle.arrays.specs.Shape.{FieldShape}
+use Rattle.arrays.specs.Prelude.{FieldShape}
 use Rattle.shared.specs.Known.{IsLegalKnown, Known, known_of}
-use Rattle.table.specs.Contents.{Contents}
-use Rattle.table.specs.History.{History, rows}
+use Rattle.table.specs.Prelude.{Contents, History, rows}
 
 -- Each pair's worker is one of so many.
 abbrev pub IsOfWorkers : ℕ → History → Type 0

@@ -3,13 +3,9 @@ use Rattle.std.specs.Prelude.{◌≡◌, ◌⊎◌, ℕ, List, ◌++◌, length,
 use Rattle.std.proofs.Common.{inl, inr}
 use Rattle.std.specs.Coded.{Coded, code_by, coded_ℕ, coded×, coded⊎}
 use Rattle.std.specs.List.{filter_map}
-use Rattle.arrays.specs.Batch.{Table}
-use Rattle.arrays.specs.Shape.{FieldShape}
+use Rattle.arrays.specs.Prelude.{FieldShape, Table, field_code}
 use Rattle.shared.specs.Known.{Known}
-use Rattle.table.specs.Contents.{table_code}
-use Rattle.table.specs.History.{History}
-use Rattle.table.specs.Widened.{widened}
-use Rattle.arrays.specs.FieldCode.{field_code}
+use Rattle.table.specs.Prelude.{History, table_code, widened}
 
 -- A worker's rows come behind all others, or a field behind the others.
 pub data Change : Type 0 where

@@ -1,8 +1,7 @@
 -- Codes of histories and refusals: by them a proof tells such values apart.
 use Rattle.std.specs.Prelude.{◌≡◌, ℕ, zero, suc, refl}
 use Rattle.std.specs.Coded.{Coded, code_by, coded_ℕ, coded_list, coded×}
-use Rattle.table.specs.Contents.{table_code}
-use Rattle.table.specs.History.{History}
+use Rattle.table.specs.Prelude.{History, table_code}
 use Rattle.table.specs.declared.refusal.Refusal.{Refusal}
 use Rattle.table.specs.declared.refusal.Refusal.TheVariants.{SchemaDiffers, NullInNonNullable, TableFull, BookFull, TextsFull, NoMemory}
 

@@ -1,15 +1,12 @@
 -- What a worker shows of itself.
 use Rattle.std.specs.Prelude.{◌≡◌, ℕ, ◌+◌, ◌<◌, ◌++◌, List, [], ◌∷◌, Option, None, length, refl, ⊤}
 use Rattle.std.specs.Coded.{Coded, code_by, coded_ℕ, coded_option, coded×}
-use Rattle.arrays.specs.Batch.{Batch, Table, rows_of}
-use Rattle.arrays.specs.Shape.{FieldShape}
+use Rattle.arrays.specs.Prelude.{Batch, FieldShape, Table, rows_of}
 use Rattle.shared.specs.Code.{history_code}
 use Rattle.shared.specs.Known.{IsBeginning, IsLegalKnown, Known, known_code, with_column}
 use Rattle.shared.specs.Left.{Left, left_code}
 use Rattle.shared.specs.Parts.{InOrder}
-use Rattle.table.specs.Cause.{batch_cause}
-use Rattle.table.specs.History.{History, of, rows}
-use Rattle.table.specs.Widened.{widened}
+use Rattle.table.specs.Prelude.{History, batch_cause, of, rows, widened}
 
 -- Its number, the fields and the history that it has seen, the pairs that it added itself, under these fields, how many columns it
 -- added, and what was left with it.

@@ -1,8 +1,7 @@
 -- Batches that were joined.
 use Rattle.std.specs.Prelude.{ℕ, List}
-use Rattle.arrays.specs.Batch.{Table}
-use Rattle.arrays.specs.Shape.{FieldShape}
-use Rattle.table.specs.Neighbours.{AreGroups}
+use Rattle.arrays.specs.Prelude.{FieldShape, Table}
+use Rattle.table.specs.Prelude.{AreGroups}
 
 -- They are the groups of some batches: each is one of these, or several neighbours that one batch of so many rows holds.
 abbrev pub AreBatchGroups : List FieldShape → ℕ → List Table → Type 0

@@ -2,13 +2,9 @@
 use Rattle.std.specs.Prelude.{◌+◌, ◌++◌, List, [], ◌∷◌, length, refl}
 use Rattle.std.specs.Coded.{Coded, code_by, coded_list, coded×}
 use mathlib.Core.List.{IsPrefix}
-use Rattle.arrays.specs.Shape.{FieldShape}
+use Rattle.arrays.specs.Prelude.{FieldShape, field_code}
 use Rattle.shared.specs.Code.{history_code}
-use Rattle.table.specs.Cause.{IsLegal}
-use Rattle.table.specs.Contents.{Contents}
-use Rattle.table.specs.History.{History}
-use Rattle.table.specs.Widened.{widened}
-use Rattle.arrays.specs.FieldCode.{field_code}
+use Rattle.table.specs.Prelude.{Contents, History, IsLegal, widened}
 
 -- The fields of the table as they are stored, and its history under them.
 pub record Known : Type 0 where

@@ -1,17 +1,6 @@
-pub use Rattle.table.specs.Answer
-pub use Rattle.table.specs.Answers
-pub use Rattle.table.specs.Cause
 pub use Rattle.table.specs.Contents
 pub use Rattle.table.specs.FirstFault
-pub use Rattle.table.specs.Groups
-pub use Rattle.table.specs.History
-pub use Rattle.table.specs.QueryFault
-pub use Rattle.table.specs.QueryFaults
 pub use Rattle.table.specs.QueryShape
-pub use Rattle.table.specs.Resolved
-pub use Rattle.table.specs.Stored
-pub use Rattle.table.specs.Widened
-pub use Rattle.table.specs.declared.refusal.Refusal
 pub use Rattle.table.specs.declared.refusal.Refusal.TheVariants as Refusals
 pub use Rattle.histories.specs.declared.naming.Naming
 pub mod Code
@@ -27,3 +16,4 @@ pub mod Balance
 pub mod Gathered
 pub mod Joined
 pub mod Opened
+pub mod Prelude

@@ -1,9 +1,8 @@
 -- What the name of a table is of.
 use Rattle.std.specs.Prelude.{◌≡◌, ℕ, List, refl}
 use Rattle.std.specs.Coded.{Coded, code_by, coded_ℕ, coded_list, coded×}
-use Rattle.arrays.specs.Shape.{FieldShape}
+use Rattle.arrays.specs.Prelude.{FieldShape, field_code}
 use Rattle.logbook.specs.Pages.{Book, book_coded}
-use Rattle.arrays.specs.FieldCode.{field_code}
 
 -- The book of its log, its stored fields, its ledgers of calls, of rows and of columns, and how many workers it has.
 pub record NamedTable : Type 0 where

@@ -3,19 +3,14 @@
 ghost use Rattle.std.specs.Prelude.{◌≡◌, ◌⊎◌, ◌+◌, ◌++◌, ◌∷◌, ◌<◌, ◌≤◌, ◌^◌, [], All, IfErr, IfOk, IfSome, None, OnErr, OnOk, Some, is_some, length, sum_by};
 ghost use Rattle.std.specs.Arc.{arc_value};
 ghost use mathlib.Core.List.{IsPrefix};
-ghost use Rattle.arrays.specs.Shape.{field_of};
+ghost use Rattle.arrays.specs.Prelude.{field_of};
 ghost use Rattle.shared.specs.Missing.{AllThere};
 ghost use Rattle.shared.specs.Balance.{IsOfWorkers, ShowsKnown};
 ghost use Rattle.shared.specs.Changes.{known_after};
 ghost use Rattle.shared.specs.Hand.{HasAdded, HasSeen, HasWidened, IsWorkerOf, HasAllItsPairs, calls_of_hand, columns_of_hand, rows_of_hand};
 ghost use Rattle.shared.specs.Known.{IsLegalKnown, known_of};
 ghost use Rattle.shared.specs.Showing.{next_number};
-ghost use Rattle.table.specs.Cause.{IsLegal, batch_cause, early_cause};
-ghost use Rattle.table.specs.Compacted.{IsCompacted};
-ghost use Rattle.table.specs.Contents.{Contents, admitted};
-ghost use Rattle.table.specs.History.{rows};
-ghost use Rattle.table.specs.Stored.{stored_field};
-ghost use Rattle.table.specs.Widened.{add_fault, with_last_field};
+ghost use Rattle.table.specs.Prelude.{Contents, IsCompacted, IsLegal, add_fault, admitted, batch_cause, early_cause, rows, stored_field, with_last_field};
 
 use crate::ledgers::{Books, Shares};
 use crate::lending::tell_totals;

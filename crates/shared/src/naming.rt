@@ -9,7 +9,7 @@ use std::marker::{Brand, Model};
 /// it is the name.
 pub trait Naming: histories::Naming {
     ghost use Rattle.std.specs.Prelude.{List, ℕ};
-    ghost use Rattle.arrays.specs.Shape.{FieldShape};
+    ghost use Rattle.arrays.specs.Prelude.{FieldShape};
 
     /// The stored fields at opening.
     ghost fields: { List FieldShape };
@@ -79,7 +79,7 @@ pub(crate) struct Added<'a> {
 }
 
 impl<'a> Noted<Event> for Added<'a> {
-    ghost use Rattle.arrays.specs.Shape.{field_of};
+    ghost use Rattle.arrays.specs.Prelude.{field_of};
     ghost use Rattle.shared.specs.Changes.{field_added};
     ghost use Rattle.table.specs.Stored.{stored_field};
 

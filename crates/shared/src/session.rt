@@ -1,7 +1,7 @@
 //! What is done with a table, whatever its name is.
 
 ghost use Rattle.std.specs.Prelude.{◌≡◌, ℕ, List, [], IfErr, IfOk, length, replicate};
-ghost use Rattle.arrays.specs.Shape.{FieldShape};
+ghost use Rattle.arrays.specs.Prelude.{FieldShape};
 ghost use Rattle.shared.specs.Hand.{AreNew};
 ghost use Rattle.shared.specs.Named.{IsNamed};
 ghost use Rattle.shared.specs.Opened.{IsWorkerCount, IsFew, IsOpenFault};

@@ -3,18 +3,14 @@
 ghost use Rattle.std.specs.Prelude.{◌≡◌, ◌⊎◌, ◌+◌, ◌≤◌, [], All, IfErr, IfOk, IfSome, None, OnErr, OnOk, Some, length, sum_by};
 ghost use Rattle.std.specs.Arc.{arc_value};
 ghost use mathlib.Core.List.{IsPrefix};
-ghost use Rattle.arrays.specs.Shape.{field_of};
-ghost use Rattle.table.specs.Neighbours.{AreApart};
+ghost use Rattle.arrays.specs.Prelude.{field_of};
+ghost use Rattle.table.specs.Prelude.{AreApart, add_fault, batch_cause, rows, stored_field};
 ghost use Rattle.shared.specs.Balance.{IsOfWorkers};
 ghost use Rattle.shared.specs.Gathered.{Stands};
 ghost use Rattle.shared.specs.Hand.{HasAdded, HasSeen, HasWidened, HasAddedNothing, IsRaised, HasAllItsPairs, calls_of_hand, columns_of_hand, rows_of_hand};
 ghost use Rattle.shared.specs.Known.{IsLegalKnown, known_of};
 ghost use Rattle.shared.specs.Joined.{AreBatchGroups};
 ghost use Rattle.shared.specs.Missing.{AllThere};
-ghost use Rattle.table.specs.Cause.{batch_cause};
-ghost use Rattle.table.specs.History.{rows};
-ghost use Rattle.table.specs.Stored.{stored_field};
-ghost use Rattle.table.specs.Widened.{add_fault};
 
 use crate::fault::{GatherCause, GatherFault};
 use crate::ledgers::{Books, Shares};

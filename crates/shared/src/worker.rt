@@ -45,8 +45,7 @@ impl<N: Naming> Model for Worker<N> {
     ghost use Rattle.shared.specs.Changes.{fields_after, known_after, pairs_in};
     ghost use Rattle.shared.specs.Known.{IsLegalKnown};
     ghost use Rattle.shared.specs.Parts.{InOrder};
-    ghost use Rattle.table.specs.History.{of, rows};
-    ghost use Rattle.table.specs.Widened.{widened};
+    ghost use Rattle.table.specs.Prelude.{of, rows, widened};
 
     ghost view = { λ w. record {
       number = w.number;

@@ -6,17 +6,11 @@ use Rattle.std.specs.Option.{option_or}
 use Rattle.std.proofs.lemmas.Bool.{ltb-false, not-false}
 use Rattle.std.proofs.lemmas.List.Folds.{list_any-append}
 use Rattle.pool.proofs.PlaceLemmas.{among_missing}
-use Rattle.arrays.specs.First.{first}
-use Rattle.arrays.specs.Kind.{depth, has_dict_in_list, kind_of}
-use Rattle.arrays.specs.Schema.{holds_dict, is_deep, schema_fault}
-use Rattle.arrays.specs.Shape.{FieldShape, Shape, field, field_of, field_step, is_nullable, kind_of_field, shape_step}
-use Rattle.arrays.specs.Field.{Field, fold_out-Field, out-Field}
-use Rattle.arrays.specs.SchemaFault.{SchemaFault}
+use Rattle.arrays.specs.Prelude.{Field, FieldShape, SchemaFault, Shape, depth, field, field_of, field_step, first, fold_out-Field, has_dict_in_list, holds_dict, is_deep, is_nullable, kind_of, kind_of_field, out-Field, schema_fault, shape_step}
 use Rattle.arrays.specs.SchemaFaults.{TooDeep as SchemaDeep, DictInList as SchemaDict}
 use Rattle.arrays.proofs.FirstLemmas.{first-none, then_some-none}
 use Rattle.arrays.proofs.ShapeLemmas.{kind_of_field-field_of}
-use Rattle.table.specs.Stored.{stored_field}
-use Rattle.table.specs.Widened.{add_fault}
+use Rattle.table.specs.Prelude.{add_fault, stored_field}
 use Rattle.table.specs.declared.add_fault.AddFault.{AddFault}
 use Rattle.table.specs.declared.add_fault.AddFault.TheVariants.{DictInList, NotNullable, TooDeep}
 use Rattle.arrays.proofs.BatchLemmas.{missing}

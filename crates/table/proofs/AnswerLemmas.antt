@@ -1,15 +1,9 @@
 -- A query over the batches of a table is one over its fields and rows.
 use Rattle.std.proofs.Common.{◌≡◌, ◌∙◌, List, [], ◌∷◌, map, All, Result, Ok, Err, IfOk, IfErr, true, ap, refl, sym, subst, ℕ}
 use Rattle.std.specs.Prelude.{◌⊎◌}
-use Rattle.answers.specs.QueryFaults.{Overflow, NoMemory}
+use Rattle.answers.specs.Prelude.{GroupShape, IsAnswer, IsRefusal, NoMemory, Overflow, QueryFault, QueryShape, all_rows, first_fields, fits, groups}
 use Rattle.std.proofs.lemmas.List.Elements.{All-head, All-nil, All-weaker}
-use Rattle.arrays.specs.Batch.{Batch, Table}
-use Rattle.arrays.specs.Shape.{FieldShape, kind_of_field}
-use Rattle.answers.specs.QueryShape.{QueryShape}
-use Rattle.answers.specs.FirstFault.{fits}
-use Rattle.answers.specs.QueryFault.{QueryFault}
-use Rattle.answers.specs.Answers.{IsAnswer, IsRefusal, all_rows, first_fields}
-use Rattle.answers.specs.Groups.{GroupShape, groups}
+use Rattle.arrays.specs.Prelude.{Batch, FieldShape, Table, kind_of_field}
 use Rattle.answers.specs.declared.groups.Answer.{Answer}
 use Rattle.table.specs.Lawful.{IsStored, rows_of_batches}
 

@@ -7,18 +7,10 @@ use Rattle.std.specs.declared.alloc.Global.{Global}
 use Rattle.std.specs.declared.sync.Arc.{Arc}
 use Rattle.std.proofs.lemmas.List.{length-map}
 use Rattle.std.proofs.lemmas.Option.{same_Some}
-use Rattle.arrays.specs.Item.{text}
+use Rattle.arrays.specs.Prelude.{FieldShape, Seen, Table, column, shown, text}
 use Rattle.arrays.specs.Kind as kind
-use Rattle.arrays.specs.Seen.{Seen}
-use Rattle.arrays.specs.Shape.{FieldShape}
-use Rattle.arrays.specs.Shown.{shown}
 use Rattle.pool.specs.Texts.{firsts, texts_of}
-use Rattle.table.specs.Storage.{IsConsistent, batches_of}
-use Rattle.arrays.specs.Batch.{Table, column}
-use Rattle.table.specs.Lawful.{dictionaries_of, dictionary_in, rows_of_batches, texts_in}
-use Rattle.table.specs.Ready.{BeginWithTexts, column_texts}
-use Rattle.table.specs.Recoded.{entry_count, shortened}
-use Rattle.table.specs.Stored.{is_text_field}
+use Rattle.table.specs.Prelude.{BeginWithTexts, IsConsistent, batches_of, column_texts, dictionaries_of, dictionary_in, entry_count, is_text_field, rows_of_batches, shortened, texts_in}
 use Rattle.table.specs.declared.storage.Storage.{Storage}
 use Rattle.pool.proofs.PrefixLemmas.{prefix_length, prefix_take}
 

@@ -5,18 +5,10 @@ use Rattle.std.specs.Bool.{then_some}
 use Rattle.std.specs.List.{zip}
 use Rattle.std.specs.Str.{bytes_eq}
 use Rattle.std.proofs.lemmas.Bool.{ne_eqb}
-use Rattle.arrays.specs.Batch.{Batch, batch_fault, rows_of, Table}
-use Rattle.arrays.specs.Kind.{kind_of, same_kind}
-use Rattle.arrays.specs.Seen.{Seen}
-use Rattle.arrays.specs.Shape.{FieldShape, Shape, field_of, field_step, fields_of, kind_of_field, name_of, shape_step}
-use Rattle.arrays.specs.Field.{Field, fold_out-Field, out-Field}
+use Rattle.arrays.specs.Prelude.{Batch, Field, FieldShape, Seen, Shape, Table, batch_fault, field_of, field_step, fields_of, first, fold_out-Field, kind_of, kind_of_field, name_of, out-Field, rows_of, same_kind, shape_step}
 use Rattle.arrays.proofs.SchemaLemmas.{position-map}
 use Rattle.arrays.proofs.ShapeLemmas.{kind_of_field-field_of}
-use Rattle.arrays.specs.First.{first}
-use Rattle.table.specs.Cause.{difference, differs, is_book_full, is_table_full, null_cause}
-use Rattle.table.specs.Columns.{HasColumns}
-use Rattle.table.specs.History.{History, rows}
-use Rattle.table.specs.Stored.{is_stored_as, stored_kind}
+use Rattle.table.specs.Prelude.{HasColumns, History, difference, differs, is_book_full, is_stored_as, is_table_full, null_cause, rows, stored_kind}
 use Rattle.table.specs.declared.refusal.Refusal.{Refusal}
 use Rattle.table.specs.declared.refusal.Refusal.TheVariants.{BookFull, TableFull}
 use Rattle.table.proofs.BatchLemmas.{HasColumns-rows_of}

@@ -5,14 +5,9 @@ use Rattle.std.specs.Str.{bytes_eq}
 use Rattle.std.proofs.lemmas.Cmp.{nat_list_eq_equiv}
 use Rattle.std.proofs.lemmas.Slice.Eq.{bytes_eq-Decides}
 use Rattle.std.proofs.lemmas.List.Folds.{list_any-append}
-use Rattle.arrays.specs.Slot.{item_of, is_recodable}
-use Rattle.arrays.specs.Dictionary.{looked_up}
-use Rattle.arrays.specs.Item.{Item, boolean, int, list, null, text}
+use Rattle.arrays.specs.Prelude.{IsItemOf, Item, Kind, boolean, int, is_recodable, item_of, list, looked_up, null, text}
 use Rattle.arrays.specs.Kind as kind
-use Rattle.arrays.specs.Kind.{Kind}
-use Rattle.arrays.specs.Typed.{IsItemOf}
-use Rattle.pool.specs.Codes.{code_item}
-use Rattle.pool.specs.Texts.{firsts, is_among, is_once, texts_of}
+use Rattle.pool.specs.Prelude.{code_item, firsts, is_among, is_once, texts_of}
 use Rattle.pool.proofs.PlaceLemmas.{among_place}
 use Rattle.pool.proofs.TextLemmas.{beyond, either, firsts-append, firsts-once, is_among-firsts}
 

@@ -1,12 +1,9 @@
 -- What is reported before the texts are looked at.
 use Rattle.std.proofs.Common.{◌≡◌, ℕ, ◌+◌, ◌≤◌, ◌^◌, List, [], ◌∷◌, length, Bool, true, false, Option, None, Some, option_map, refl}
 use Rattle.std.proofs.lemmas.Bool.{ltb-false}
-use Rattle.arrays.specs.Batch.{Batch, rows_of}
-use Rattle.arrays.specs.Shape.{FieldShape}
+use Rattle.arrays.specs.Prelude.{Batch, FieldShape, first, rows_of}
 use Rattle.std.specs.Bool.{then_some}
-use Rattle.arrays.specs.First.{first}
-use Rattle.table.specs.Cause.{batch_cause, difference, early_cause, is_book_full, is_table_full, null_cause, texts_cause}
-use Rattle.table.specs.History.{History, rows}
+use Rattle.table.specs.Prelude.{History, batch_cause, difference, early_cause, is_book_full, is_table_full, null_cause, rows, texts_cause}
 use Rattle.table.specs.declared.refusal.Refusal.{Refusal}
 use Rattle.table.specs.declared.refusal.Refusal.TheVariants.{BookFull, SchemaDiffers, TableFull}
 

@@ -6,23 +6,11 @@ use Rattle.std.specs.declared.alloc.Global.{Global}
 use Rattle.std.specs.declared.sync.Arc.{Arc}
 use Rattle.std.specs.declared.vec.Vec.{Vec}
 use Rattle.std.proofs.lemmas.List.{length-map, map-append, take_all, take_more}
-use Rattle.arrays.specs.Batch.{Batch, rows_of, Table, column}
-use Rattle.arrays.specs.Item.{text}
+use Rattle.arrays.specs.Prelude.{Batch, Field, FieldShape, Seen, Table, column, field_of, fields_of, kind_of_field, rows_of, shown, text}
 use Rattle.arrays.specs.Kind as kind
-use Rattle.arrays.specs.Seen.{Seen}
-use Rattle.arrays.specs.Shape.{FieldShape, field_of, fields_of, kind_of_field}
-use Rattle.arrays.specs.Shown.{shown}
-use Rattle.arrays.specs.Field.{Field}
-use Rattle.answers.specs.Summary.{AreStats}
-use Rattle.answers.specs.ColumnStats.{ColumnStats}
-use Rattle.table.specs.Cause.{IsLegal}
-use Rattle.table.specs.Contents.{Contents}
-use Rattle.table.specs.Storage.{IsConsistent, batches_of, book_of, dictionaries_in, pieces_in, show}
-use Rattle.table.specs.History.{History, history_from}
-use Rattle.table.specs.Lawful.{LawfulTable, book_rows, dictionaries_of, dictionary_in, rows_of_batches, texts_in}
+use Rattle.answers.specs.Prelude.{AreStats, ColumnStats}
+use Rattle.table.specs.Prelude.{ArePools, Contents, History, IsConsistent, IsLegal, LawfulTable, batches_of, book_of, book_rows, dictionaries_in, dictionaries_of, dictionary_in, history_from, is_text_field, pieces_in, rows_of_batches, show, stored_field, stored_fields, texts_in}
 use Rattle.compaction.specs.Statistics.{AreStatsOf}
-use Rattle.table.specs.Ready.{ArePools}
-use Rattle.table.specs.Stored.{is_text_field, stored_field, stored_fields}
 use Rattle.table.specs.declared.storage.Storage.{Storage}
 use Rattle.answers.proofs.ColumnsLemmas.{all_zip-push}
 

@@ -14,26 +14,15 @@ use Rattle.std.proofs.lemmas.List.FromFn.{get_or-map-range_with_len, length-map-
 use Rattle.std.proofs.lemmas.List.Sums.{sum_by-cons, sum_by-take-le}
 use Rattle.std.proofs.lemmas.Option.{get_or_from_slice_get, same_Some, slice_get_within}
 use Rattle.std.proofs.lemmas.Simd.{map-map}
-use Rattle.arrays.specs.Slice.{slice}
-use Rattle.arrays.specs.Batch.{Batch, batch_fault, row_of, rows_of, Row, Table}
-use Rattle.arrays.specs.File.{AreBatchesOf, kinds_of}
-use Rattle.arrays.specs.Item.{Item, null}
-use Rattle.arrays.specs.Kind.{same_kind}
-use Rattle.arrays.specs.Seen.{Seen, part}
-use Rattle.arrays.specs.Shape.{FieldShape, kind_of_field}
+use Rattle.arrays.specs.Prelude.{AreBatchesOf, Batch, FieldShape, Item, Row, Seen, Table, batch_fault, kind_of_field, kinds_of, most_slots, null, part, row_of, rows_of, same_kind, slice}
 use Rattle.compaction.proofs.ChosenLemmas.{items-chosen, kind-chosen}
-use Rattle.table.specs.Export.{HasMore, IsLawful, IsExportPlace, IsUnder, copied, passed, rows_before}
-use Rattle.table.specs.Book.{pair_of}
-use Rattle.table.specs.Storage.{IsConsistent, batches_of, book_of, show}
-use Rattle.table.specs.History.{history_from}
-use Rattle.table.specs.Lawful.{EndsWithEntry, book_rows, rows_of_batches}
+use Rattle.table.specs.Prelude.{EndsWithEntry, HasMore, IsConsistent, IsExportPlace, IsLawful, IsUnder, batches_of, book_of, book_rows, copied, history_from, pair_of, passed, rows_before, rows_of_batches, show}
 use Rattle.table.specs.declared.entry.Entry.{Entry}
 use Rattle.table.specs.declared.export.Place.{Place}
 use Rattle.table.specs.declared.storage.Storage.{Storage}
 use Rattle.arrays.proofs.BatchLemmas.{faultless, length-rows_of, map-same, sizes, whole, wrong_kind}
 use Rattle.table.proofs.StorageLemmas.{length-book}
 use Rattle.table.proofs.TableLemmas.{counted-push, table_of-push}
-use Rattle.arrays.specs.Limits.{most_slots}
 
 abbrev pub Shared : Type 0
 Shared = Arc Batch Global

@@ -1,23 +1,11 @@
 -- The texts of a table with those of a batch.
 use Rattle.std.proofs.Common.{◌≡◌, ◌∙◌, ℕ, suc, ◌+◌, List, [], ◌∷◌, ◌++◌, length, map, Bool, true, false, cond, ◌&&◌, None, Some, ap, sym, refl}
 use Rattle.std.specs.List.{enumerate_from, zip}
-use Rattle.arrays.specs.Item.{Item, text}
+use Rattle.arrays.specs.Prelude.{FieldShape, Item, Kind, Narrow, Seen, Table, Wide, column, first, is_recodable, same_kind, shown, text}
 use Rattle.arrays.specs.Kind as kind
-use Rattle.arrays.specs.Kind.{Kind, same_kind}
-use Rattle.arrays.specs.Seen.{Seen}
-use Rattle.arrays.specs.Shape.{FieldShape}
-use Rattle.arrays.specs.Shown.{shown}
-use Rattle.arrays.specs.OffsetWidths.{Narrow, Wide}
-use Rattle.arrays.specs.Slot.{is_recodable}
 use Rattle.pool.specs.Texts.{firsts, is_too_full, texts_of}
 use Rattle.std.specs.Bool.{then_some}
-use Rattle.arrays.specs.First.{first}
-use Rattle.table.specs.Cause.{full_in, texts_cause}
-use Rattle.arrays.specs.Batch.{Table, column}
-use Rattle.table.specs.History.{History, rows}
-use Rattle.table.specs.Lawful.{dictionary_in, texts_in}
-use Rattle.table.specs.Recoded.{dictionary_for, full_at, full_cause, grown, is_past_dictionary}
-use Rattle.table.specs.Stored.{is_text_field, stored_kind}
+use Rattle.table.specs.Prelude.{History, dictionary_for, dictionary_in, full_at, full_cause, full_in, grown, is_past_dictionary, is_text_field, rows, stored_kind, texts_cause, texts_in}
 use Rattle.table.specs.declared.refusal.Refusal.TheVariants.{TextsFull}
 use Rattle.table.proofs.CodeLemmas.{firsts-twice}
 use Rattle.table.proofs.TableLemmas.{column-append, texts_of-append}

@@ -4,11 +4,8 @@ use Rattle.std.proofs.lemmas.List.{append-nil, drop-append-le, length-drop, take
 use Rattle.std.proofs.Math.Seq.{drop-append_seam, take-append_seam}
 use Rattle.std.proofs.lemmas.List.Elements.{All-push}
 use Rattle.std.proofs.lemmas.List.Sums.{sum_by-cons}
-use Rattle.arrays.specs.Shape.{FieldShape}
-use Rattle.table.specs.Cause.{IsLegal, IsTableOf, cause}
-use Rattle.arrays.specs.Batch.{Table}
-use Rattle.table.specs.History.{History, book, history_from, rows}
-use Rattle.table.specs.Lawful.{book_rows}
+use Rattle.arrays.specs.Prelude.{FieldShape, Table}
+use Rattle.table.specs.Prelude.{History, IsLegal, IsTableOf, book, book_rows, cause, history_from, rows}
 
 -- ---- one more pair
 

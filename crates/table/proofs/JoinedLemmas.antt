@@ -11,31 +11,14 @@ use Rattle.std.proofs.lemmas.List.Concat.{flat_map-cons}
 use Rattle.std.proofs.lemmas.List.Elements.{All-cons, All-drop, All-map, All-take}
 use Rattle.std.proofs.lemmas.List.Folds.{flat_map-map, list_any-append}
 use mathlib.Core.List.{IsPrefix}
-use Rattle.arrays.specs.NoMemory.{NoMemory}
-use Rattle.arrays.specs.Batch.{Batch, batch_fault, rows_of, Table, column}
-use Rattle.arrays.specs.First.{first}
-use Rattle.arrays.specs.Item.{Item, is_null, text}
+use Rattle.arrays.specs.Prelude.{Batch, FieldShape, Item, NoMemory, Seen, Table, batch_fault, column, first, is_null, is_nullable, kind_of_field, rows_of, same_kind, shown, text}
 use Rattle.arrays.specs.Kind as kind
-use Rattle.arrays.specs.Kind.{same_kind}
-use Rattle.arrays.specs.Seen.{Seen}
-use Rattle.arrays.specs.Shape.{FieldShape, is_nullable, kind_of_field}
-use Rattle.arrays.specs.Shown.{shown}
 use Rattle.arrays.proofs.FirstLemmas.{first-none}
 use Rattle.arrays.proofs.ChildLemmas.{same_kinds}
-use Rattle.answers.specs.StatsOfColumns.{AreTheirs}
-use Rattle.answers.specs.Summary.{AreStats}
-use Rattle.answers.specs.ColumnStats.{ColumnStats}
-use Rattle.compaction.specs.Neighbours.{AreGroups, together}
-use Rattle.compaction.specs.Under.{HaveStats, IsDictionary, IsUnder, pieces_of}
+use Rattle.answers.specs.Prelude.{AreStats, AreTheirs, ColumnStats}
+use Rattle.compaction.specs.Prelude.{AreGroups, AreStatsOf, HaveStats, IsDictionary, IsUnder, pieces_of, together}
 use Rattle.compaction.proofs.GroupLemmas.{groups-few, groups-some, groups-together}
-use Rattle.table.specs.Cause.{IsLegal, null_cause, null_in, null_row}
-use Rattle.table.specs.Compacted.{IsCompacted}
-use Rattle.table.specs.Storage.{IsConsistent, IsSame, IsWith, batches_of, book_of, dictionaries_in, pieces_in, show}
-use Rattle.table.specs.History.{history_from}
-use Rattle.table.specs.Lawful.{EndsWithEntry, IsStored, LawfulTable, book_rows, dictionaries_of, dictionary_in, rows_of_batches, texts_in}
-use Rattle.compaction.specs.Statistics.{AreStatsOf}
-use Rattle.table.specs.Ready.{ArePools, BeginWithTexts, column_texts}
-use Rattle.table.specs.Stored.{is_text_field}
+use Rattle.table.specs.Prelude.{ArePools, BeginWithTexts, EndsWithEntry, IsCompacted, IsConsistent, IsLegal, IsSame, IsStored, IsWith, LawfulTable, batches_of, book_of, book_rows, column_texts, dictionaries_in, dictionaries_of, dictionary_in, history_from, is_text_field, null_cause, null_in, null_row, pieces_in, rows_of_batches, show, texts_in}
 use Rattle.table.specs.declared.storage.Storage.{Storage}
 use Rattle.table.specs.declared.refusal.Refusal.TheVariants.{NullInNonNullable}
 use Rattle.pool.proofs.PlaceLemmas.{among_missing}

@@ -4,24 +4,13 @@ use Rattle.std.specs.Prelude.{slice_index_or}
 use Rattle.std.specs.List.{AllZip, enumerate_from, list_any, range_with_len, zip}
 use Rattle.std.proofs.lemmas.List.{length-map}
 use Rattle.table.proofs.FrontLemmas.{prefix_self}
-use Rattle.arrays.specs.Batch.{Batch, batch_fault, row_of, rows_of, Table, column}
-use Rattle.arrays.specs.Item.{Item, null, text}
+use Rattle.arrays.specs.Prelude.{Batch, FieldShape, Item, Kind, Narrow, Seen, Table, Wide, batch_fault, column, is_recodable, kind_of_field, null, row_of, rows_of, same_kind, shown, text}
 use Rattle.arrays.specs.Kind as kind
-use Rattle.arrays.specs.Kind.{Kind, same_kind}
-use Rattle.arrays.specs.Seen.{Seen}
-use Rattle.arrays.specs.Shape.{FieldShape, kind_of_field}
-use Rattle.arrays.specs.Shown.{shown}
-use Rattle.arrays.specs.OffsetWidths.{Narrow, Wide}
 use Rattle.arrays.proofs.ListArrays.{same_kind-refl}
-use Rattle.arrays.specs.Slot.{is_recodable}
-use Rattle.answers.specs.Summary.{AreStats}
-use Rattle.answers.specs.ColumnStats.{ColumnStats}
+use Rattle.answers.specs.Prelude.{AreJoined, AreStats, AreTheirs, ColumnStats}
 use Rattle.pool.specs.Texts.{firsts, texts_of}
-use Rattle.answers.specs.StatsOfColumns.{AreJoined, AreTheirs}
 use Rattle.compaction.specs.Under.{NamesFront}
-use Rattle.table.specs.Lawful.{texts_in}
-use Rattle.table.specs.Recoded.{coded, dictionary_for, grown, stored_seen}
-use Rattle.table.specs.Stored.{stored_kind}
+use Rattle.table.specs.Prelude.{coded, dictionary_for, grown, stored_kind, stored_seen, texts_in}
 use Rattle.table.proofs.CodeLemmas.{among-grown, codes-back}
 use Rattle.std.proofs.lemmas.Simd.{map-map}
 use Rattle.table.proofs.TableLemmas.{column-append}

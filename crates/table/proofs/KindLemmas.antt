@@ -1,10 +1,7 @@
 -- The kinds of types that are dictionaries, and of those that aren't.
 use Rattle.std.proofs.Common.{◌≡◌, ◌∙◌, false, ap, refl}
 use Rattle.arrays.specs.Kind as kind
-use Rattle.arrays.specs.Kind.{Kind, kind_of, kind_step, same_kind}
-use Rattle.arrays.specs.DataType.{DataType, fold_out-DataType, map-DataType}
-use Rattle.arrays.specs.DataTypes.{Int, Bool, Utf8, LargeUtf8, List', LargeList', Dict, outs-Dict}
-use Rattle.arrays.specs.Field.{Field, fold-Field}
+use Rattle.arrays.specs.Prelude.{Bool, DataType, Dict, Field, Int, Kind, LargeList', LargeUtf8, List', Utf8, fold-Field, fold_out-DataType, kind_of, kind_step, map-DataType, outs-Dict, same_kind}
 use Rattle.arrays.proofs.ShapeLemmas.{kind_of-Bool, kind_of-Int, kind_of-LargeList, kind_of-LargeUtf8, kind_of-List, kind_of-Utf8}
 
 pub kind_of-Dict : kind_of Dict ≡ kind.dict

@@ -7,16 +7,11 @@ use Rattle.std.specs.declared.sync.Arc.{Arc}
 use Rattle.std.proofs.lemmas.List.{append-nil, drop-map, length-drop, length-map, map-append, take-map, take_all}
 use Rattle.std.proofs.lemmas.List.Elements.{All-drop, All-head, All-tail}
 use Rattle.std.proofs.lemmas.Slice.Zip.{AllZip-long}
-use Rattle.arrays.specs.Batch.{Batch, Table, rows_of}
-use Rattle.arrays.specs.Seen.{Seen}
-use Rattle.arrays.specs.Shape.{FieldShape}
-use Rattle.answers.specs.ColumnStats.{ColumnStats}
+use Rattle.arrays.specs.Prelude.{Batch, FieldShape, Seen, Table, rows_of}
+use Rattle.answers.specs.Prelude.{ColumnStats}
 use Rattle.compaction.proofs.JoinedLemmas.{all_zip-all}
-use Rattle.compaction.specs.Statistics.{AreStatsOf}
-use Rattle.compaction.specs.Under.{IsUnder, NamesFront}
-use Rattle.table.specs.Cause.{null_cause}
-use Rattle.table.specs.Lawful.{IsStored, LawfulTable, dictionaries_of, rows_of_batches}
-use Rattle.table.specs.Moved.{AreMoved, IsMoved, with_last}
+use Rattle.compaction.specs.Prelude.{AreStatsOf, IsUnder, NamesFront}
+use Rattle.table.specs.Prelude.{AreMoved, IsMoved, IsStored, LawfulTable, dictionaries_of, null_cause, rows_of_batches, with_last}
 
 -- ---- lists
 

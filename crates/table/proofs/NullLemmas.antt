@@ -4,10 +4,7 @@ use Rattle.std.specs.List.{enumerate_from, position_or_len}
 use Rattle.std.proofs.Math.Seq.{drop-cons}
 use Rattle.std.proofs.lemmas.Bool.{ltb-false}
 use Rattle.std.proofs.lemmas.List.{drop_all, length-take-le}
-use Rattle.arrays.specs.Item.{Item}
-use Rattle.arrays.specs.Shape.{FieldShape}
-use Rattle.arrays.specs.Batch.{Table, column}
-use Rattle.arrays.specs.First.{first}
+use Rattle.arrays.specs.Prelude.{FieldShape, Item, Table, column, first}
 use Rattle.table.specs.Cause.{null_cause, null_in, null_row}
 use Rattle.table.specs.declared.refusal.Refusal.{Refusal}
 use Rattle.table.specs.declared.refusal.Refusal.TheVariants.{NullInNonNullable}

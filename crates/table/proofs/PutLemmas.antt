@@ -8,21 +8,12 @@ use Rattle.std.specs.declared.vec.Vec.{Vec}
 use Rattle.std.specs.List.{AllZip, enumerate_from}
 use Rattle.std.proofs.lemmas.Bool.{ltb-false}
 use Rattle.std.proofs.lemmas.List.{length-map, map-append}
-use Rattle.arrays.specs.NoMemory.{NoMemory}
-use Rattle.arrays.specs.Batch.{Batch, rows_of, Table}
-use Rattle.arrays.specs.Seen.{Seen}
-use Rattle.arrays.specs.Shape.{FieldShape}
+use Rattle.arrays.specs.Prelude.{Batch, FieldShape, NoMemory, Seen, Table, rows_of}
 use Rattle.answers.proofs.ColumnsLemmas.{all_zip-push}
-use Rattle.answers.specs.ColumnStats.{ColumnStats}
+use Rattle.answers.specs.Prelude.{ColumnStats}
 use Rattle.std.specs.Bool.{then_some}
 use Rattle.compaction.specs.Under.{pieces_of}
-use Rattle.table.specs.Cause.{IsLegal, batch_cause, cause, difference, is_book_full, is_table_full, null_cause, texts_cause}
-use Rattle.table.specs.Contents.{Contents, admitted}
-use Rattle.table.specs.Storage.{IsConsistent, IsPut, IsSame, IsWith, batches_of, book_of, dictionaries_in, pieces_in, show}
-use Rattle.table.specs.History.{History, history_from, rows}
-use Rattle.table.specs.Lawful.{LawfulTable, book_rows, dictionaries_of, rows_of_batches, texts_in}
-use Rattle.table.specs.Moved.{IsMoved, with_last}
-use Rattle.table.specs.Ready.{ArePools, IsAdditionOf}
+use Rattle.table.specs.Prelude.{ArePools, Contents, History, IsAdditionOf, IsConsistent, IsLegal, IsMoved, IsPut, IsSame, IsWith, LawfulTable, admitted, batch_cause, batches_of, book_of, book_rows, cause, dictionaries_in, dictionaries_of, difference, history_from, is_book_full, is_table_full, null_cause, pieces_in, rows, rows_of_batches, show, texts_cause, texts_in, with_last}
 use Rattle.table.specs.declared.change.Addition.{Addition}
 use Rattle.table.specs.declared.storage.Storage.{Storage}
 use Rattle.table.specs.declared.refusal.Refusal.TheVariants.{BookFull, SchemaDiffers, TableFull}

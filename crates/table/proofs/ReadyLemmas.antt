@@ -3,19 +3,10 @@ use Rattle.std.proofs.Common.{◌≡◌, ◌∙◌, ℕ, List, [], ◌∷◌, Al
 use Rattle.std.specs.Prelude.{Result, Ok, Err, IfErr, IsErrAnd, ◌⊎◌, slice_index_or}
 use Rattle.std.specs.Arc.{arc_value}
 use Rattle.std.specs.List.{AllZip, enumerate_from, zip}
-use Rattle.arrays.specs.Batch.{Batch, batch_fault, rows_of, Table}
-use Rattle.arrays.specs.Seen.{Seen}
-use Rattle.arrays.specs.Shape.{FieldShape}
-use Rattle.answers.specs.ColumnStats.{ColumnStats}
-use Rattle.table.specs.Cause.{batch_cause, difference, early_cause, null_cause}
-use Rattle.answers.specs.StatsOfColumns.{AreJoined, AreTheirs}
-use Rattle.table.specs.Storage.{IsConsistent, batches_of, book_of, dictionaries_in, pieces_in, show}
-use Rattle.compaction.specs.Under.{IsDictionary, IsUnder, NamesFront, pieces_of}
-use Rattle.table.specs.Lawful.{dictionaries_of, rows_of_batches, texts_in}
-use Rattle.compaction.specs.Statistics.{AreStatsOf}
-use Rattle.table.specs.Moved.{AreMoved}
-use Rattle.table.specs.Ready.{ArePools, IsAdditionOf}
-use Rattle.table.specs.Recoded.{dictionary_for, full_cause, grown, stored_seen}
+use Rattle.arrays.specs.Prelude.{Batch, FieldShape, Seen, Table, batch_fault, rows_of}
+use Rattle.answers.specs.Prelude.{AreJoined, AreTheirs, ColumnStats}
+use Rattle.table.specs.Prelude.{AreMoved, ArePools, IsAdditionOf, IsConsistent, batch_cause, batches_of, book_of, dictionaries_in, dictionaries_of, dictionary_for, difference, early_cause, full_cause, grown, null_cause, pieces_in, rows_of_batches, show, stored_seen, texts_in}
+use Rattle.compaction.specs.Prelude.{AreStatsOf, IsDictionary, IsUnder, NamesFront, pieces_of}
 use Rattle.table.specs.declared.change.Addition.{Addition}
 use Rattle.table.specs.declared.storage.Storage.{Storage}
 use Rattle.table.specs.declared.refusal.Refusal.{Refusal}

@@ -8,20 +8,12 @@ use Rattle.std.proofs.lemmas.Bool.{le-ltb, lt-ltb}
 use Rattle.std.proofs.lemmas.List.{append-nil, drop_all, drop_more, append_assoc, get_or-map, get_or_at, get_or_default, length-drop, length-map, length-take-le, map-append, map_more, set_at, take-append-drop, take_all, take_more}
 use Rattle.std.proofs.lemmas.Simd.{map-map}
 use Rattle.std.proofs.lemmas.Slice.Zip.{get_or-zip, length-zip}
-use Rattle.arrays.specs.Slot.{item_of, is_recodable}
-use Rattle.arrays.specs.Dictionary.{encoded, is_code}
-use Rattle.arrays.specs.Item.{Item, boolean, int, list, null, text}
+use Rattle.arrays.specs.Prelude.{Item, Seen, boolean, encoded, first, int, int32, is_code, is_recodable, item_of, list, null, shown, text}
 use Rattle.arrays.specs.Kind as kind
-use Rattle.arrays.specs.Kind.{int32}
-use Rattle.arrays.specs.Seen.{Seen}
-use Rattle.arrays.specs.Shown.{shown}
-use Rattle.pool.specs.Codes.{code_item}
-use Rattle.pool.specs.Texts.{firsts, place_of, texts_of}
-use Rattle.pool.specs.Front.{IsFront}
+use Rattle.pool.specs.Prelude.{IsFront, code_item, firsts, place_of, texts_of}
 use Rattle.pool.proofs.PlaceLemmas.{position_found}
 use Rattle.pool.proofs.PrefixLemmas.{prefix_take}
 use Rattle.std.specs.Bool.{then_some}
-use Rattle.arrays.specs.First.{first}
 use Rattle.table.specs.Recoded.{coded, dictionary_for, full_at, full_cause, grown, is_past_dictionary, stored_seen}
 use Rattle.table.specs.declared.refusal.Refusal.{Refusal}
 use Rattle.table.specs.declared.refusal.Refusal.TheVariants.{TextsFull}

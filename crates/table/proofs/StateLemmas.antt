@@ -5,8 +5,7 @@ use Rattle.std.specs.declared.alloc.Global.{Global}
 use Rattle.std.specs.declared.sync.Arc.{Arc}
 use Rattle.std.proofs.lemmas.List.{length-map}
 use Rattle.arrays.specs.Batch.{Batch, rows_of, Table}
-use Rattle.table.specs.Storage.{IsConsistent, show}
-use Rattle.table.specs.Ready.{IsAdditionOf}
+use Rattle.table.specs.Prelude.{IsAdditionOf, IsConsistent, show}
 use Rattle.table.specs.declared.change.Addition.{Addition}
 use Rattle.table.specs.declared.storage.Storage.{Storage}
 use Rattle.table.proofs.StorageLemmas.{count-shown}

@@ -7,15 +7,10 @@ use Rattle.std.specs.declared.sync.Arc.{Arc}
 use Rattle.std.specs.declared.alloc.Global.{Global}
 use Rattle.std.specs.declared.vec.Vec.{Vec}
 use Rattle.std.proofs.lemmas.Option.{same_Some, slice_get-map}
-use Rattle.arrays.specs.Batch.{Batch, rows_of, Table, column}
-use Rattle.arrays.specs.Seen.{Seen}
-use Rattle.arrays.specs.Shape.{FieldShape, kind_of_field}
-use Rattle.answers.specs.Summary.{AreStats}
-use Rattle.answers.specs.ColumnStats.{ColumnStats}
+use Rattle.arrays.specs.Prelude.{Batch, FieldShape, Seen, Table, column, kind_of_field, rows_of}
+use Rattle.answers.specs.Prelude.{AreStats, ColumnStats}
 use Rattle.std.proofs.lemmas.List.{get_or-map, length-map}
-use Rattle.table.specs.Storage.{IsConsistent, batches_of, book_of, pieces_in, show}
-use Rattle.table.specs.History.{book, rows}
-use Rattle.table.specs.Lawful.{dictionaries_of, rows_of_batches}
+use Rattle.table.specs.Prelude.{IsConsistent, batches_of, book, book_of, dictionaries_of, pieces_in, rows, rows_of_batches, show}
 use Rattle.compaction.specs.Statistics.{AreStatsOf}
 use Rattle.table.specs.declared.storage.Storage.{Storage}
 use Rattle.table.proofs.HistoryLemmas.{book-cut, length-cut, rows-cut}

@@ -1,11 +1,8 @@
 -- A schema as a table stores it.
 use Rattle.std.proofs.Common.{◌≡◌, ◌∙◌, List, Option, None, Some, option_map, position, ap, refl}
 use Rattle.std.specs.Option.{option_or}
-use Rattle.arrays.specs.OffsetWidths.{Narrow, Wide}
-use Rattle.arrays.specs.Schema.{holds_dict, is_deep, schema_fault}
-use Rattle.arrays.specs.Shape.{FieldShape, boolean, dict, field, int, lists, texts}
-use Rattle.arrays.specs.SchemaFault.{SchemaFault}
-use Rattle.arrays.specs.SchemaFaults.{DictInList, TooDeep}
+use Rattle.arrays.specs.Prelude.{DictInList, FieldShape, Narrow, SchemaFault, TooDeep, Wide, dict, field, holds_dict, is_deep, lists, schema_fault, texts}
+use Rattle.arrays.specs.Shape.{boolean, int}
 use Rattle.arrays.proofs.SchemaLemmas.{position-map}
 use Rattle.table.specs.Stored.{stored_field, stored_fields}
 

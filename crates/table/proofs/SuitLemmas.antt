@@ -4,19 +4,11 @@ use Rattle.std.specs.List.{AllZip, enumerate_from, list_any, range_with_len, zip
 use Rattle.std.specs.Str.{bytes_eq}
 use Rattle.std.proofs.lemmas.Bool.{eqb-true, not-false, or_parts}
 use Rattle.std.proofs.lemmas.List.Elements.{All-map}
-use Rattle.arrays.specs.Batch.{Batch, batch_fault, row_of, rows_of, Table, column}
-use Rattle.arrays.specs.Item.{Item, boolean, int, list, null, text}
-use Rattle.arrays.specs.OffsetWidths.{Narrow, Wide}
+use Rattle.arrays.specs.Prelude.{Batch, FieldShape, IsItemOf, Item, Kind, Narrow, Seen, Table, Wide, batch_fault, boolean, column, first, int, kind_of_field, list, name_of, null, row_of, rows_of, same_kind, text}
 use Rattle.arrays.specs.Kind as kind
-use Rattle.arrays.specs.Kind.{Kind, same_kind}
-use Rattle.arrays.specs.Seen.{Seen}
-use Rattle.arrays.specs.Shape.{FieldShape, kind_of_field, name_of}
-use Rattle.arrays.specs.Typed.{IsItemOf}
 use Rattle.arrays.proofs.ChildLemmas.{same_kinds}
 use Rattle.pool.proofs.PlaceLemmas.{among_missing}
-use Rattle.arrays.specs.First.{first}
-use Rattle.table.specs.Cause.{IsRowOf, IsTableOf, difference, differs}
-use Rattle.table.specs.Stored.{stored_kind}
+use Rattle.table.specs.Prelude.{IsRowOf, IsTableOf, difference, differs, stored_kind}
 use Rattle.table.proofs.BatchLemmas.{HasColumns-rows_of}
 use Rattle.arrays.proofs.BatchLemmas.{whole, wrong_kind}
 

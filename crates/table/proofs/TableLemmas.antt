@@ -8,20 +8,14 @@ use Rattle.std.proofs.lemmas.List.{append-nil, map-append, take-append-le, take_
 use Rattle.std.proofs.lemmas.List.Elements.{All-push}
 use Rattle.std.proofs.lemmas.List.Sums.{sum_by-append}
 use Rattle.std.proofs.lemmas.Grind.{flat_map-append}
-use Rattle.arrays.specs.Batch.{Batch, rows_of, Table, column}
-use Rattle.arrays.specs.Item.{Item, boolean, int, list, null, text}
+use Rattle.arrays.specs.Prelude.{Batch, FieldShape, Item, Seen, Table, boolean, column, int, list, null, rows_of, shown, text}
 use Rattle.arrays.specs.Kind as kind
-use Rattle.arrays.specs.Seen.{Seen}
-use Rattle.arrays.specs.Shape.{FieldShape}
-use Rattle.arrays.specs.Shown.{shown}
 use Rattle.answers.proofs.ColumnsLemmas.{all_zip-push}
-use Rattle.answers.specs.ColumnStats.{ColumnStats}
+use Rattle.answers.specs.Prelude.{ColumnStats}
 use Rattle.pool.specs.Texts.{firsts, texts_of}
 use Rattle.pool.proofs.TextLemmas.{beyond, firsts-append}
-use Rattle.compaction.specs.Under.{NamesFront}
-use Rattle.table.specs.Lawful.{EndsWithEntry, IsStored, LawfulTable, book_rows, dictionaries_of, dictionary_in, rows_of_batches, texts_in}
-use Rattle.compaction.specs.Statistics.{AreStatsOf}
-use Rattle.table.specs.Stored.{is_text_field}
+use Rattle.compaction.specs.Prelude.{AreStatsOf, NamesFront}
+use Rattle.table.specs.Prelude.{EndsWithEntry, IsStored, LawfulTable, book_rows, dictionaries_of, dictionary_in, is_text_field, rows_of_batches, texts_in}
 use Rattle.table.proofs.FrontLemmas.{prefix_trans}
 
 pub table_of-push : (batches : List Batch) (b : Batch) → rows_of_batches (batches ++ b ∷ []) ≡ rows_of_batches batches ++ rows_of b

@@ -6,18 +6,10 @@ use mathlib.Core.List.{IsPrefix}
 use Rattle.std.proofs.lemmas.List.{drop-map, get_or_past, length-map, map-append, take-map, take_all}
 use Rattle.std.proofs.lemmas.List.Elements.{All-append, All-cons, All-map}
 use Rattle.std.proofs.lemmas.Simd.{map-map}
-use Rattle.arrays.specs.Batch.{Row, Table, column}
-use Rattle.arrays.specs.First.{first}
-use Rattle.arrays.specs.Item.{Item, is_null, null}
-use Rattle.arrays.specs.Kind.{Kind}
-use Rattle.arrays.specs.Shape.{FieldShape, is_nullable, kind_of_field}
-use Rattle.arrays.specs.Typed.{IsItemOf}
+use Rattle.arrays.specs.Prelude.{FieldShape, IsItemOf, Item, Kind, Row, Table, column, first, is_null, is_nullable, kind_of_field, null}
 use Rattle.answers.proofs.ColumnsLemmas.{all_zip-push}
 use Rattle.pool.specs.Texts.{firsts, is_too_full, texts_of}
-use Rattle.table.specs.Cause.{IsLegal, IsRowOf, IsTableOf, cause, full_in, is_book_full, is_table_full, null_cause, null_in, null_row, texts_cause}
-use Rattle.table.specs.History.{History, book, history_from, of, rows}
-use Rattle.table.specs.Stored.{is_text_field}
-use Rattle.table.specs.Widened.{widened, widened_row, widened_table}
+use Rattle.table.specs.Prelude.{History, IsLegal, IsRowOf, IsTableOf, book, cause, full_in, history_from, is_book_full, is_table_full, is_text_field, null_cause, null_in, null_row, of, rows, texts_cause, widened, widened_row, widened_table}
 use Rattle.table.specs.declared.refusal.Refusal.{Refusal}
 use Rattle.table.specs.declared.refusal.Refusal.TheVariants.{BookFull, NullInNonNullable, TableFull, TextsFull}
 use Rattle.arrays.proofs.BatchLemmas.{map-same}

@@ -7,31 +7,13 @@ use Rattle.std.proofs.lemmas.List.{get_or-map, length-map, map-append, take-map,
 use Rattle.std.proofs.lemmas.List.Elements.{All-append, All-map}
 use Rattle.std.proofs.lemmas.Simd.{map-map}
 use Rattle.std.proofs.lemmas.Slice.Zip.{get_or-zip, length-zip}
-use Rattle.arrays.specs.Limits.{most_slots}
-use Rattle.arrays.specs.Batch.{Batch, Row, batch_fault, row_of, rows_of, Table, column}
-use Rattle.arrays.specs.Dictionary.{looked_up}
-use Rattle.arrays.specs.Item.{Item, null, text}
+use Rattle.arrays.specs.Prelude.{Batch, FieldShape, Item, Kind, Row, Seen, Table, batch_fault, column, is_nullable, kind_of_field, looked_up, most_slots, null, nulls, row_of, rows_of, same_kind, shown, text}
 use Rattle.arrays.specs.Kind as kind
-use Rattle.arrays.specs.Kind.{Kind, same_kind}
-use Rattle.arrays.specs.Nulls.{nulls}
-use Rattle.arrays.specs.Seen.{Seen}
-use Rattle.arrays.specs.Shape.{FieldShape, is_nullable, kind_of_field}
-use Rattle.arrays.specs.Shown.{shown}
-use Rattle.compaction.specs.Statistics.{AreStatsOf}
-use Rattle.compaction.specs.Under.{NamesFront}
+use Rattle.compaction.specs.Prelude.{AreStatsOf, NamesFront}
 use Rattle.answers.proofs.ColumnsLemmas.{all_zip-more, all_zip-push}
-use Rattle.answers.specs.Summary.{AreSame, AreStats}
-use Rattle.answers.specs.ColumnStats.{ColumnStats}
+use Rattle.answers.specs.Prelude.{AreSame, AreStats, ColumnStats}
 use Rattle.pool.specs.Texts.{firsts, texts_of}
-use Rattle.table.specs.Cause.{IsLegal, null_cause}
-use Rattle.table.specs.Contents.{Contents}
-use Rattle.table.specs.Storage.{IsConsistent, IsSame, batches_of, book_of, dictionaries_in, pieces_in, show}
-use Rattle.table.specs.History.{history_from, rows}
-use Rattle.table.specs.Lawful.{EndsWithEntry, IsStored, LawfulTable, book_rows, dictionaries_of, dictionary_in, rows_of_batches, texts_in}
-use Rattle.table.specs.Ready.{ArePools}
-use Rattle.table.specs.Stored.{is_text_field}
-use Rattle.table.specs.Widened.{widened, widened_row, widened_table, with_last_field}
-use Rattle.table.specs.Widening.{AreAllWider, AreWider, IsWider, no_texts, with_nulls}
+use Rattle.table.specs.Prelude.{AreAllWider, ArePools, AreWider, Contents, EndsWithEntry, IsConsistent, IsLegal, IsSame, IsStored, IsWider, LawfulTable, batches_of, book_of, book_rows, dictionaries_in, dictionaries_of, dictionary_in, history_from, is_text_field, no_texts, null_cause, pieces_in, rows, rows_of_batches, show, texts_in, widened, widened_row, widened_table, with_last_field, with_nulls}
 use Rattle.table.specs.declared.storage.Storage.{Storage}
 use Rattle.arrays.proofs.BatchLemmas.{length-rows_of, map-same, whole}
 use Rattle.table.proofs.EmptyLemmas.{enumerate_from-push, none_if}

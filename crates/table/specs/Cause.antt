@@ -3,12 +3,7 @@ use Rattle.std.specs.Prelude.{◌≡◌, ◌∷◌, ◌++◌, ◌&&◌, ◌||◌
 use Rattle.std.specs.List.{enumerate_from, AllZip, zip}
 use Rattle.std.specs.Str.{bytes_eq}
 use Rattle.std.specs.Bool.{then_some}
-use Rattle.arrays.specs.First.{first}
-use Rattle.arrays.specs.Batch.{Batch, rows_of, Row, Table, column}
-use Rattle.arrays.specs.Item.{Item, is_null}
-use Rattle.arrays.specs.Kind.{same_kind}
-use Rattle.arrays.specs.Shape.{FieldShape, is_nullable, kind_of_field, name_of}
-use Rattle.arrays.specs.Typed.{IsItemOf}
+use Rattle.arrays.specs.Prelude.{Batch, FieldShape, IsItemOf, Item, Row, Table, column, first, is_null, is_nullable, kind_of_field, name_of, rows_of, same_kind}
 use Rattle.pool.specs.Texts.{firsts, is_too_full, texts_of}
 use Rattle.table.specs.History.{History, rows}
 use Rattle.table.specs.Stored.{is_text_field, stored_kind}

@@ -1,7 +1,6 @@
 -- The columns of a table, side by side.
 use Rattle.std.specs.Prelude.{◌≡◌, ℕ, ◌<◌, List, length, slice_index_or}
-use Rattle.arrays.specs.Seen.{Seen}
-use Rattle.arrays.specs.Batch.{Table, column}
+use Rattle.arrays.specs.Prelude.{Seen, Table, column}
 
 -- The columns are those of the table.
 pub record HasColumns (t : Table) (columns : List Seen) : Type 0 where

@@ -1,10 +1,7 @@
 -- What a table shows of itself.
 use Rattle.std.specs.Prelude.{ℕ, List, refl, [], ◌∷◌, ◌++◌}
 use Rattle.std.specs.Coded.{Coded, code_by, coded_ℕ, coded_list, coded×}
-use Rattle.arrays.specs.Batch.{Batch, rows_of, Table}
-use Rattle.arrays.specs.FieldCode.{field_code}
-use Rattle.arrays.specs.SeenCode.{item_code}
-use Rattle.arrays.specs.Shape.{FieldShape}
+use Rattle.arrays.specs.Prelude.{Batch, FieldShape, Table, field_code, item_code, rows_of}
 use Rattle.table.specs.History.{History}
 
 -- The fields as they are stored, what was added and by whom, and the rows of each batch.

@@ -1,9 +1,7 @@
 -- A table given out part by part, one for each entry of its book.
 use Rattle.std.specs.Prelude.{◌≡◌, ℕ, ◌+◌, ◌<◌, ◌≤◌, List, length, take, None}
-use Rattle.arrays.specs.Batch.{Batch, batch_fault}
-use Rattle.arrays.specs.Seen.{Seen, part}
-use Rattle.arrays.specs.Shape.{FieldShape}
-use Rattle.compaction.specs.Chosen.{chosen}
+use Rattle.arrays.specs.Prelude.{Batch, FieldShape, Seen, batch_fault, part}
+use Rattle.compaction.specs.Prelude.{chosen}
 use Rattle.table.specs.Lawful.{rows_of_batches}
 use Rattle.table.specs.declared.export.Place.{Place}
 

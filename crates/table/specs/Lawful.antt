@@ -1,15 +1,10 @@
 -- A table all of whose parts agree.
 use Rattle.std.specs.Prelude.{◌≡◌, ℕ, ◌≤◌, ◌<◌, ◌^◌, List, [], map, flat_map, length, sum_by, take, All, Option, Some, None, if◌then◌else◌}
 use Rattle.std.specs.List.{AllZip, enumerate_from}
-use Rattle.arrays.specs.Batch.{Batch, batch_fault, rows_of, Table, column}
-use Rattle.arrays.specs.Item.{text}
+use Rattle.arrays.specs.Prelude.{Batch, FieldShape, Seen, Table, batch_fault, column, rows_of, shown, text}
 use Rattle.arrays.specs.Kind as kind
-use Rattle.arrays.specs.Seen.{Seen}
-use Rattle.arrays.specs.Shape.{FieldShape}
-use Rattle.arrays.specs.Shown.{shown}
-use Rattle.compaction.specs.Under.{NamesFront}
-use Rattle.compaction.specs.Statistics.{AreStatsOf}
-use Rattle.answers.specs.ColumnStats.{ColumnStats}
+use Rattle.compaction.specs.Prelude.{AreStatsOf, NamesFront}
+use Rattle.answers.specs.Prelude.{ColumnStats}
 use Rattle.pool.specs.Texts.{firsts, texts_of}
 use Rattle.table.specs.Cause.{null_cause}
 use Rattle.table.specs.Stored.{is_text_field}

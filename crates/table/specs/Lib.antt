@@ -1,19 +1,8 @@
-pub use Rattle.answers.specs.Joined
-pub use Rattle.answers.specs.Scalars
-pub use Rattle.answers.specs.Stats
-pub use Rattle.answers.specs.Summary
-pub use Rattle.answers.specs.ColumnStats
-pub use Rattle.answers.specs.Scalar
-pub use Rattle.compaction.specs.Neighbours
-pub use Rattle.answers.specs.FaultText
 pub use Rattle.answers.specs.FirstFault
 pub use Rattle.answers.specs.QueryShape
 pub use Rattle.answers.specs.Resolved
-pub use Rattle.answers.specs.Agg
-pub use Rattle.answers.specs.Aggs
 pub use Rattle.answers.specs.QueryFault
 pub use Rattle.answers.specs.QueryFaults
-pub use Rattle.answers.specs.QueryText
 pub use Rattle.answers.specs.Answers
 pub use Rattle.answers.specs.Groups
 pub use Rattle.answers.specs.declared.groups.Answer
@@ -34,3 +23,4 @@ pub mod Change
 pub mod Compacted
 pub mod Widened
 pub mod Widening
+pub mod Prelude

@@ -1,9 +1,7 @@
 -- Batches over longer dictionaries.
 use Rattle.std.specs.Prelude.{◌≡◌, ◌≤◌, ◌-◌, ◌++◌, List, length, take, Option}
 use Rattle.std.specs.List.{AllZip}
-use Rattle.arrays.specs.Batch.{Batch, rows_of}
-use Rattle.arrays.specs.Seen.{Seen}
-use Rattle.arrays.specs.Shape.{FieldShape}
+use Rattle.arrays.specs.Prelude.{Batch, FieldShape, Seen, rows_of}
 use Rattle.compaction.specs.Under.{IsUnder}
 
 -- The second has the rows of the first, and names fronts of these dictionaries.

@@ -7,10 +7,9 @@ use Rattle.arrays.specs.Batch.{Batch, rows_of, Table}
 use Rattle.table.specs.Cause.{IsTableOf, batch_cause}
 use Rattle.table.specs.Moved.{AreMoved}
 use Rattle.table.specs.Storage.{batches_of, book_of, pieces_in, show}
-use Rattle.compaction.specs.Under.{NamesFront, pieces_of}
-use Rattle.answers.specs.ColumnStats.{ColumnStats}
+use Rattle.compaction.specs.Prelude.{AreStatsOf, NamesFront, pieces_of}
+use Rattle.answers.specs.Prelude.{ColumnStats}
 use Rattle.table.specs.Lawful.{IsStored, dictionaries_of, rows_of_batches, texts_in}
-use Rattle.compaction.specs.Statistics.{AreStatsOf}
 use Rattle.table.specs.declared.change.Addition.{Addition}
 use Rattle.table.specs.declared.storage.Storage.{Storage}
 

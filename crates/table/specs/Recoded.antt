@@ -4,17 +4,10 @@ use Rattle.std.specs.Arc.{arc_value}
 use Rattle.std.specs.List.{enumerate_from, zip}
 use Rattle.std.specs.declared.sync.Arc.{Arc}
 use Rattle.std.specs.declared.alloc.Global.{Global}
-use Rattle.arrays.specs.Dictionary.{encoded}
-use Rattle.arrays.specs.Item.{text}
+use Rattle.arrays.specs.Prelude.{Seen, encoded, first, int32, is_recodable, shown, text}
 use Rattle.arrays.specs.Kind as kind
-use Rattle.arrays.specs.Kind.{int32}
-use Rattle.arrays.specs.Seen.{Seen}
-use Rattle.arrays.specs.Shown.{shown}
-use Rattle.arrays.specs.Slot.{is_recodable}
-use Rattle.pool.specs.Codes.{code_item}
-use Rattle.pool.specs.Texts.{firsts, is_too_full, texts_of}
+use Rattle.pool.specs.Prelude.{code_item, firsts, is_too_full, texts_of}
 use Rattle.std.specs.Bool.{then_some}
-use Rattle.arrays.specs.First.{first}
 use Rattle.table.specs.declared.refusal.Refusal.{Refusal}
 use Rattle.table.specs.declared.refusal.Refusal.TheVariants.{TextsFull}
 

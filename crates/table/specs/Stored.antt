@@ -1,10 +1,8 @@
 -- How a table keeps its columns: a top-level column of texts with offsets of 32 bits gets a dictionary.
 use Rattle.std.specs.Prelude.{List, map, Bool}
-use Rattle.arrays.specs.OffsetWidths.{Narrow, Wide}
+use Rattle.arrays.specs.Prelude.{DataType, FieldShape, Kind, Narrow, Shape, Wide, dict, field, kind_of, kind_of_field, lists, same_kind, texts}
 use Rattle.arrays.specs.Kind as kind
-use Rattle.arrays.specs.Kind.{Kind, kind_of, same_kind}
-use Rattle.arrays.specs.DataType.{DataType}
-use Rattle.arrays.specs.Shape.{FieldShape, Shape, boolean, dict, field, int, kind_of_field, lists, texts}
+use Rattle.arrays.specs.Shape.{boolean, int}
 
 abbrev pub stored_shape : Shape → Shape
 stored_shape (texts Narrow) = dict

@@ -1,11 +1,7 @@
 -- A table with a column more: the rows that were there show null in it.
 use Rattle.std.specs.Prelude.{ℕ, zero, suc, ◌+◌, [], ◌∷◌, ◌++◌, length, map, not, nat_lt, Option}
 use Rattle.std.specs.Bool.{then_some}
-use Rattle.arrays.specs.Batch.{Row, Table}
-use Rattle.arrays.specs.First.{first}
-use Rattle.arrays.specs.Item.{null}
-use Rattle.arrays.specs.Kind.{depth, has_dict_in_list}
-use Rattle.arrays.specs.Shape.{FieldShape, is_nullable, kind_of_field}
+use Rattle.arrays.specs.Prelude.{FieldShape, Row, Table, depth, first, has_dict_in_list, is_nullable, kind_of_field, null}
 use Rattle.table.specs.Contents.{Contents}
 use Rattle.table.specs.History.{History}
 use Rattle.table.specs.declared.add_fault.AddFault.{AddFault}

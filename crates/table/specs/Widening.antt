@@ -2,16 +2,9 @@
 use Rattle.std.specs.Prelude.{◌≡◌, ◌∷◌, ◌++◌, [], ℕ, List, map, replicate, Option, Some, None, if◌then◌else◌}
 use Rattle.std.specs.Arc.{arc_value}
 use Rattle.std.specs.List.{AllZip, zip}
-use Rattle.arrays.specs.Batch.{Batch}
-use Rattle.arrays.specs.Item.{null}
+use Rattle.arrays.specs.Prelude.{Batch, FieldShape, Kind, Seen, kind_of_field, null, nulls, same_kind, shown}
 use Rattle.arrays.specs.Kind as kind
-use Rattle.arrays.specs.Kind.{Kind, same_kind}
-use Rattle.arrays.specs.Nulls.{nulls}
-use Rattle.arrays.specs.Seen.{Seen}
-use Rattle.arrays.specs.Shape.{FieldShape, kind_of_field}
-use Rattle.arrays.specs.Shown.{shown}
-use Rattle.answers.specs.Summary.{AreSame, AreStats}
-use Rattle.answers.specs.ColumnStats.{ColumnStats}
+use Rattle.answers.specs.Prelude.{AreSame, AreStats, ColumnStats}
 use Rattle.table.specs.Storage.{batches_of, book_of, dictionaries_in, pieces_in}
 use Rattle.table.specs.declared.storage.Storage.{Storage}
 

@@ -4,10 +4,9 @@ ghost use Rattle.std.specs.Prelude.{◌≡◌, ◌⊎◌, ◌++◌, All, IfErr, 
 ghost use Rattle.std.specs.Arc.{arc_value};
 ghost use Rattle.std.specs.List.{AllZip};
 ghost use mathlib.Core.List.{IsPrefix};
-ghost use Rattle.arrays.specs.Batch.{rows_of};
-ghost use Rattle.arrays.specs.Typed.{IsItemOf};
+ghost use Rattle.arrays.specs.Prelude.{IsItemOf, rows_of};
 ghost use Rattle.table.specs.Cause.{batch_cause, early_cause};
-ghost use Rattle.answers.specs.StatsOfColumns.{AreTheirs};
+ghost use Rattle.answers.specs.Prelude.{AreTheirs};
 ghost use Rattle.table.specs.Storage.{IsConsistent, batches_of, show};
 ghost use Rattle.table.specs.Lawful.{rows_of_batches};
 ghost use Rattle.table.specs.Ready.{ArePools, BeginWithTexts, IsAdditionOf};

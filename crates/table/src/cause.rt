@@ -4,9 +4,7 @@ ghost use Rattle.std.specs.Prelude.{◌≡◌, ◌∷◌, [], option_map, positi
 ghost use Rattle.std.specs.Arc.{arc_value};
 ghost use Rattle.std.specs.Bool.{then_some};
 ghost use Rattle.std.specs.List.{zip};
-ghost use Rattle.arrays.specs.Shape.{field_of};
-ghost use Rattle.arrays.specs.Batch.{rows_of};
-ghost use Rattle.arrays.specs.First.{first};
+ghost use Rattle.arrays.specs.Prelude.{field_of, first, rows_of};
 ghost use Rattle.table.specs.Cause.{difference, differs, early_cause, is_book_full, is_table_full, null_cause};
 ghost use Rattle.table.specs.Storage.{IsConsistent, show};
 ghost use Rattle.table.specs.Stored.{is_stored_as};

@@ -5,9 +5,7 @@ ghost use Rattle.std.specs.Arc.{arc_value};
 ghost use Rattle.std.specs.List.{AllZip, zip};
 ghost use mathlib.Core.List.{IsPrefix};
 ghost use Rattle.arrays.specs.Kind as kind;
-ghost use Rattle.arrays.specs.Item.{text};
-ghost use Rattle.arrays.specs.Shown.{shown};
-ghost use Rattle.arrays.specs.Slot.{is_recodable};
+ghost use Rattle.arrays.specs.Prelude.{is_recodable, shown, text};
 ghost use Rattle.pool.specs.Front.{IsFront};
 ghost use Rattle.table.specs.Recoded.{coded, dictionary_for, entry_count, full_cause, grown, is_past_dictionary, shortened, stored_seen};
 

@@ -3,8 +3,7 @@
 ghost use Rattle.std.specs.Prelude.{◌≡◌, ◌+◌, ◌<◌, ◌≤◌, All, IfOk, length, map};
 ghost use Rattle.std.specs.Arc.{arc_value};
 ghost use Rattle.std.specs.List.{AllByRecursion};
-ghost use Rattle.arrays.specs.Slice.{slice};
-ghost use Rattle.arrays.specs.Batch.{rows_of};
+ghost use Rattle.arrays.specs.Prelude.{rows_of, slice};
 ghost use Rattle.table.specs.Export.{HasMore, IsLawful, IsExportPlace, IsUnder, copied, passed};
 ghost use Rattle.table.specs.Storage.{IsConsistent, show};
 ghost use Rattle.table.specs.Lawful.{rows_of_batches};

@@ -1,8 +1,7 @@
 //! What holds of all histories.
 
 ghost use Rattle.std.specs.Prelude.{◌≡◌, ◌∷◌, ◌++◌, ◌+◌, [], ℕ, All, List, length, true};
-ghost use Rattle.arrays.specs.Batch.{Table};
-ghost use Rattle.arrays.specs.Shape.{FieldShape, is_nullable};
+ghost use Rattle.arrays.specs.Prelude.{FieldShape, Table, is_nullable};
 ghost use Rattle.table.specs.Cause.{IsLegal, IsTableOf};
 ghost use Rattle.table.specs.History.{History, book, history_from, rows};
 ghost use Rattle.table.specs.Lawful.{book_rows};

@@ -1,11 +1,9 @@
 //! Nulls where none may be.
 
 ghost use Rattle.std.specs.Prelude.{◌≡◌, length, position};
-ghost use Rattle.arrays.specs.Item.{is_null};
-ghost use Rattle.arrays.specs.Shape.{field_of, fields_of};
+ghost use Rattle.arrays.specs.Prelude.{Table, field_of, fields_of, is_null};
 ghost use Rattle.table.specs.Cause.{null_cause, null_row};
 ghost use Rattle.table.specs.Columns.{HasColumns};
-ghost use Rattle.arrays.specs.Batch.{Table};
 
 use crate::refusal::Refusal;
 use arrays::{Array, Field, View};

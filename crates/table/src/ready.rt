@@ -2,7 +2,7 @@
 
 ghost use Rattle.std.specs.Prelude.{◌≡◌, IfOk};
 ghost use Rattle.std.specs.Arc.{arc_value};
-ghost use Rattle.answers.specs.StatsOfColumns.{AreTheirs};
+ghost use Rattle.answers.specs.Prelude.{AreTheirs};
 
 use answers::{ColumnStats, stats_of_all};
 use arrays::{NoMemory, RecordBatch};
@@ -29,7 +29,7 @@ impl Model for Ready {
     ghost coded = { batch_code };
 
     ghost use Rattle.std.specs.Arc.{arc_value};
-    ghost use Rattle.answers.specs.StatsOfColumns.{AreTheirs};
+    ghost use Rattle.answers.specs.Prelude.{AreTheirs};
 
     ghost view = { λ r. r.batch };
 

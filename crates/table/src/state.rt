@@ -4,8 +4,8 @@ ghost use Rattle.std.specs.Prelude.{◌≡◌, ◌⊎◌, [], IfErr, IfOk, None,
 ghost use Rattle.std.specs.Arc.{arc_value};
 ghost use Rattle.table.specs.Cause.{IsLegal, batch_cause, early_cause};
 ghost use Rattle.table.specs.Contents.{Contents, admitted};
-ghost use Rattle.arrays.specs.Shape.{field_of};
-ghost use Rattle.answers.specs.StatsOfColumns.{AreTheirs};
+ghost use Rattle.arrays.specs.Prelude.{field_of};
+ghost use Rattle.answers.specs.Prelude.{AreTheirs};
 ghost use Rattle.table.specs.Compacted.{IsCompacted};
 ghost use Rattle.table.specs.Stored.{stored_field, stored_fields};
 ghost use Rattle.table.specs.Widened.{add_fault, with_last_field};

@@ -1,7 +1,7 @@
 //! How a table keeps its columns.
 
 ghost use Rattle.std.specs.Prelude.{◌≡◌, IfOk};
-ghost use Rattle.arrays.specs.Shape.{field_of, fields_of, shape_of};
+ghost use Rattle.arrays.specs.Prelude.{field_of, fields_of, shape_of};
 ghost use Rattle.table.specs.Stored.{stored_field, stored_fields, stored_shape};
 
 use arrays::{DataType, Field, NoMemory, Schema};

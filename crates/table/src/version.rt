@@ -3,12 +3,8 @@
 ghost use Rattle.std.specs.Prelude.{ℕ, ◌≡◌, ◌<◌, ◌≤◌, ◌^◌, All, IfErr, IfOk, Some, length, map, option_map, slice_get, slice_index_or, [], true};
 ghost use Rattle.std.specs.Arc.{arc_value};
 ghost use Rattle.std.specs.List.{AllByRecursion};
-ghost use Rattle.answers.specs.Answers.{IsAnswer, IsRefusal};
-ghost use Rattle.arrays.specs.Batch.{rows_of, column};
-ghost use Rattle.arrays.specs.Shape.{FieldShape, kind_of_field};
-ghost use Rattle.answers.specs.Summary.{AreStats};
-ghost use Rattle.answers.specs.QueryShape.{query_shape};
-ghost use Rattle.answers.specs.FirstFault.{fits};
+ghost use Rattle.answers.specs.Prelude.{AreStats, IsAnswer, IsRefusal, fits, query_shape};
+ghost use Rattle.arrays.specs.Prelude.{FieldShape, column, kind_of_field, rows_of};
 ghost use Rattle.table.specs.Export.{IsLawful};
 ghost use Rattle.table.specs.Cause.{IsLegal};
 ghost use Rattle.table.specs.Book.{pair_of};

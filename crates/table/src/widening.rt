@@ -3,11 +3,9 @@
 ghost use Rattle.std.specs.Prelude.{◌≡◌, ◌∷◌, ◌++◌, ◌^◌, ◌≤◌, [], All, IfOk, None, false, length, map};
 ghost use Rattle.std.specs.Arc.{arc_value};
 ghost use Rattle.std.specs.List.{AllZip};
-ghost use Rattle.arrays.specs.Batch.{Batch};
-ghost use Rattle.arrays.specs.Kind.{depth, has_dict_in_list, kind_of};
-ghost use Rattle.arrays.specs.Shape.{field_of, fields_of};
+ghost use Rattle.arrays.specs.Prelude.{Batch, depth, field_of, fields_of, has_dict_in_list, kind_of};
 ghost use Rattle.compaction.specs.Under.{pieces_of};
-ghost use Rattle.answers.specs.Summary.{AreSame};
+ghost use Rattle.answers.specs.Prelude.{AreSame};
 ghost use Rattle.table.specs.Storage.{IsConsistent, show};
 ghost use Rattle.table.specs.Stored.{stored_field};
 ghost use Rattle.table.specs.Widened.{add_fault, with_last_field};

@@ -1,25 +1,15 @@
 -- The columns and the rows of lawful batches.
 use Rattle.std.proofs.Common.{◌≡◌, ◌∙◌, ℕ, ◌<◌, [], List, length, Bool, cond, Option, None, Result, Ok, Err, ap, sym, refl, arith, zero, suc, ◌+◌, ◌-◌, ◌≤◌, ◌∷◌, ◌++◌, map, take, replicate, subst, ◌^◌, drop, OnOk}
 use Rattle.std.specs.Prelude.{slice_index_or, All}
-use Rattle.arrays.specs.Batch.{Batch, Row, Table, row_of}
-use Rattle.arrays.specs.Item.{null, int, Item}
-use Rattle.arrays.specs.Seen.{Seen, valid_in}
-use Rattle.evaluate.specs.Rows.{HasColumn}
+use Rattle.arrays.specs.Prelude.{Batch, IntType, Item, Row, Seen, Table, int, null, number_at, number_items, row_of, valid_in}
+use Rattle.evaluate.specs.Prelude.{Agg, HasColumn}
 use Rattle.std.proofs.lemmas.List.FromFn.{length-map-range_with_len}
-use Rattle.arrays.specs.IntType.{IntType}
-use Rattle.arrays.specs.Number.{number_at}
-use Rattle.arrays.specs.Values.{number_items}
 use Rattle.std.proofs.lemmas.Grind.{common_steps}
 use Rattle.std.proofs.lemmas.List.{map-append, length-map, take_all}
 use Rattle.std.proofs.lemmas.List.Elements.{All-nil, All-cons, All-head, All-tail, All-append, All-replicate}
-use Rattle.evaluate.specs.Agg.{Agg}
-use Rattle.tallies.specs.Columns.{ColumnShape, column_of, show_item}
-use Rattle.tallies.specs.Spread.{padded, spread}
-use Rattle.tallies.specs.Tallies.{items_for, tally_of, AreTallies, HasRoomFor, TallyShape, bettered, item_for}
+use Rattle.tallies.specs.Prelude.{AreTallies, ColumnShape, HasRoomFor, TallyShape, agg_at, bettered, column_of, item_for, items_at, items_for, padded, show_item, spread, tally_of}
 use Rattle.group.specs.declared.stats.Scalar.{Scalar}
 use Rattle.evaluate.specs.Aggs as agg
-use Rattle.tallies.specs.Ends.{agg_at}
-use Rattle.tallies.specs.Picked.{items_at}
 use Rattle.tallies.specs.declared.end.End.{End}
 use Rattle.tallies.specs.declared.end.End.TheVariants.{Least, Greatest}
 use Rattle.tallies.proofs.SpreadLemmas.{spread-map}

@@ -3,22 +3,13 @@ use Rattle.std.proofs.Common.{◌≡◌, ◌∙◌, ℕ, zero, suc, ◌+◌, ◌
 use Rattle.std.specs.Prelude.{All, slice_index_or, slice_set}
 use Rattle.std.proofs.lemmas.List.{get_or-map, get_or-set_same, length-map, length-replicate, length-set, length-take, map-append, take-map, take_more}
 use Rattle.std.proofs.lemmas.List.Elements.{All-append, All-get_or, All-head, All-map, All-nil, All-replicate, All-set, All-tail, All-weaker}
-use Rattle.arrays.specs.Batch.{Table}
-use Rattle.arrays.specs.Item.{Item, is_null, null}
-use Rattle.arrays.specs.Kind.{Kind}
-use Rattle.group.specs.Joined.{better}
-use Rattle.group.specs.Summary.{scalar_item}
+use Rattle.arrays.specs.Prelude.{Item, Kind, Table, is_null, null}
+use Rattle.group.specs.Prelude.{better, item_of_scalar, scalar_item}
 use Rattle.group.specs.declared.stats.Scalar.{Scalar}
 use Rattle.group.specs.declared.stats.Scalar.TheVariants as scalar
-use Rattle.evaluate.specs.Agg.{Agg}
+use Rattle.evaluate.specs.Prelude.{Agg}
 use Rattle.evaluate.specs.Aggs as agg
-use Rattle.group.specs.Scalars.{item_of_scalar}
-use Rattle.tallies.specs.Columns.{ColumnShape, column_of, show_item}
-use Rattle.tallies.specs.Ends.{agg_at, further, is_further, with_item}
-use Rattle.tallies.specs.Kinds.{IsComparable}
-use Rattle.tallies.specs.Merging.{AreAlike, AreFew, column_merged, merge_all, merged, put_all, spread_all}
-use Rattle.tallies.specs.Spread.{padded}
-use Rattle.tallies.specs.Tallies.{TallyShape, bettered, counted, item_for, items_for, tally_of}
+use Rattle.tallies.specs.Prelude.{AreAlike, AreFew, ColumnShape, IsComparable, TallyShape, agg_at, bettered, column_merged, column_of, counted, further, is_further, item_for, items_for, merge_all, merged, padded, put_all, show_item, spread_all, tally_of, with_item}
 use Rattle.tallies.specs.declared.end.End.{End}
 use Rattle.tallies.specs.declared.end.End.TheVariants.{Least, Greatest}
 use Rattle.tallies.proofs.ColumnLemmas.{refilled, shape}

@@ -3,10 +3,9 @@ use Rattle.std.proofs.Common.{◌≡◌, ◌∙◌, ℕ, zero, suc, ◌+◌, ◌
 use Rattle.std.specs.Prelude.{All, slice_index_or, slice_set}
 use Rattle.std.proofs.lemmas.List.{append-nil, get_or-map, length-map, map-append, take_more}
 use Rattle.std.proofs.lemmas.List.Elements.{All-head, All-tail}
-use Rattle.arrays.specs.Item.{Item}
-use Rattle.evaluate.specs.Agg.{Agg}
-use Rattle.tallies.specs.Spread.{put, spread}
-use Rattle.tallies.specs.Tallies.{AreTallies, TallyShape, tally_of}
+use Rattle.arrays.specs.Prelude.{Item}
+use Rattle.evaluate.specs.Prelude.{Agg}
+use Rattle.tallies.specs.Prelude.{AreTallies, TallyShape, put, spread, tally_of}
 use Rattle.tallies.proofs.TallyLemmas.{counts_few}
 
 -- ---- one thing more

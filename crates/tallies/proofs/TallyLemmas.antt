@@ -7,24 +7,16 @@ use Rattle.std.proofs.lemmas.Int.{ints}
 use Rattle.std.proofs.lemmas.List.{append-nil}
 use Rattle.std.proofs.lemmas.List.Sums.{fold_push, length-filter, count_by-le-length, fold-append}
 use Rattle.std.proofs.lemmas.List.Elements.{filter-append, filter_map-append, All-head, All-tail}
-use Rattle.arrays.specs.Item.{Item, null, int, boolean, text, list, is_null}
-use Rattle.evaluate.specs.Agg.{Agg}
+use Rattle.arrays.specs.Prelude.{IsItemOf, Item, Kind, boolean, int, is_list, is_null, list, null, text}
+use Rattle.evaluate.specs.Prelude.{Agg}
 use Rattle.evaluate.specs.Aggs as agg
-use Rattle.group.specs.Stats.{number_of, numbers_of, lesser, greater, greatest_of, is_ordered, least_of, ordered}
+use Rattle.group.specs.Prelude.{better, greater, greatest_of, is_ordered, least_of, lesser, number_of, numbers_of, ordered}
 use Rattle.tallies.specs.declared.end.End.{End}
 use Rattle.tallies.specs.declared.end.End.TheVariants.{Least, Greatest}
-use Rattle.tallies.specs.Ends.{agg_at, is_better, is_further, with_item}
-use Rattle.tallies.specs.Tallies.{TallyShape, bettered, valid_items, summed, tally_of, counted}
-use Rattle.tallies.specs.Totals.{sum_if_any}
+use Rattle.tallies.specs.Prelude.{IsComparable, TallyShape, agg_at, bettered, counted, is_better, is_further, merged, sum_if_any, summed, tally_of, valid_items, with_item}
 use Rattle.std.specs.Prelude.{All}
 use Rattle.arrays.specs.Kind as kind
-use Rattle.arrays.specs.Kind.{Kind}
-use Rattle.arrays.specs.Slot.{is_list}
-use Rattle.arrays.specs.Typed.{IsItemOf}
-use Rattle.group.specs.Joined.{better}
 use Rattle.group.proofs.JoinedStats.{greatest-append, least-append}
-use Rattle.tallies.specs.Kinds.{IsComparable}
-use Rattle.tallies.specs.Merging.{merged}
 
 valid_items-push : (xs : List Item) (x : Item) (b : Bool) → is_null x ≡ b → valid_items (xs ++ x ∷ []) ≡ valid_items xs ++ cond (not b) (x ∷ []) []
 valid_items-push xs x b is = filter-append (λ x. not (is_null x)) xs (x ∷ []) ∙ ap (λ b. valid_items xs ++ cond (not b) (x ∷ []) []) is

@@ -1,10 +1,9 @@
 -- The tallies of one aggregate, a cell for each group.
 use Rattle.std.specs.Prelude.{ℕ, List, [], ◌∷◌, Option, None, option_map, map, slice_index_or, ◌≡◌}
-use Rattle.arrays.specs.Batch.{Table}
-use Rattle.arrays.specs.Item.{Item}
+use Rattle.arrays.specs.Prelude.{Item, Table}
 use Rattle.group.specs.Summary.{scalar_item}
 use Rattle.group.specs.declared.stats.Scalar.{Scalar}
-use Rattle.evaluate.specs.Agg.{Agg}
+use Rattle.evaluate.specs.Prelude.{Agg}
 use Rattle.evaluate.specs.Aggs as agg
 use Rattle.tallies.specs.Ends.{agg_at, number_if_any}
 use Rattle.tallies.specs.Tallies.{TallyShape, bettered, counted, items_for, tally_of, cell_of}

@@ -1,9 +1,8 @@
 -- The least and the greatest of items.
 use Rattle.std.specs.Prelude.{ℕ, ◌^◌, ℤ, pos, Bool, not, Option, Some, None, if◌then◌else◌}
 use Rattle.std.specs.Ordering.{int_eq, is_gt}
-use Rattle.arrays.specs.Item.{Item, int, is_null}
-use Rattle.arrays.specs.Order.{order}
-use Rattle.evaluate.specs.Agg.{Agg}
+use Rattle.arrays.specs.Prelude.{Item, int, is_null, order}
+use Rattle.evaluate.specs.Prelude.{Agg}
 use Rattle.evaluate.specs.Aggs as agg
 use Rattle.tallies.specs.declared.end.End.{End}
 use Rattle.tallies.specs.declared.end.End.TheVariants.{Least, Greatest}

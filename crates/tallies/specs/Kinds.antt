@@ -1,12 +1,7 @@
 -- Items of one kind.
 use Rattle.std.specs.Prelude.{◌≡◌, ℕ, false, List, All, ⊤}
-use Rattle.arrays.specs.Batch.{Row}
-use Rattle.arrays.specs.Item.{Item}
-use Rattle.arrays.specs.Kind.{Kind}
-use Rattle.arrays.specs.Slot.{is_list}
-use Rattle.arrays.specs.Typed.{IsItemOf}
-use Rattle.evaluate.specs.Agg.{Agg}
-use Rattle.evaluate.specs.Aggs.{Rows, Count, Sum, Least, Greatest}
+use Rattle.arrays.specs.Prelude.{IsItemOf, Item, Kind, Row, is_list}
+use Rattle.evaluate.specs.Prelude.{Agg, Count, Greatest, Least, Rows, Sum}
 use Rattle.tallies.specs.Tallies.{item_for}
 
 -- An item of which the least or the greatest is sought is null or of its column's kind, which isn't one of lists.

@@ -7,3 +7,4 @@ pub mod Ends
 pub mod Columns
 pub mod Kinds
 pub mod Merging
+pub mod Prelude

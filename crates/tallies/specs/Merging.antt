@@ -1,11 +1,8 @@
 -- Groups, and groups of the rows behind theirs.
 use Rattle.std.specs.Prelude.{◌≤◌, ◌^◌, ℕ, ◌+◌, ◌+ℤ◌, List, [], ◌∷◌, ◌++◌, None, All, ⊤, slice_set, slice_index_or}
-use Rattle.arrays.specs.Batch.{Table}
-use Rattle.arrays.specs.Kind.{Kind}
-use Rattle.evaluate.specs.Agg.{Agg}
-use Rattle.evaluate.specs.Aggs.{Rows, Count, Sum, Least, Greatest}
-use Rattle.group.specs.Joined.{better}
-use Rattle.group.specs.Stats.{greater, lesser}
+use Rattle.arrays.specs.Prelude.{Kind, Table}
+use Rattle.evaluate.specs.Prelude.{Agg, Count, Greatest, Least, Rows, Sum}
+use Rattle.group.specs.Prelude.{better, greater, lesser}
 use Rattle.tallies.specs.Columns.{ColumnShape}
 use Rattle.tallies.specs.Kinds.{IsComparable}
 use Rattle.tallies.specs.Tallies.{TallyShape, bettered, counted, items_for}

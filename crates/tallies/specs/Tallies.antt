@@ -1,13 +1,9 @@
 -- What is known of the items of a group, while they come.
 use Rattle.std.specs.Prelude.{◌≡◌, ◌≤◌, ◌^◌, ◌+◌, ℕ, ℤ, pos, ◌+ℤ◌, List, not, Option, None, length, map, filter, slice_index_or}
 use Rattle.std.specs.List.{All, reduce}
-use Rattle.arrays.specs.Batch.{Row, Table}
-use Rattle.arrays.specs.Item.{Item, null, int, is_null}
-use Rattle.arrays.specs.Slot.{item_of}
-use Rattle.evaluate.specs.Agg.{Agg}
-use Rattle.evaluate.specs.Aggs.{Rows, Count, Sum, Least, Greatest}
-use Rattle.group.specs.Stats.{numbers_of, lesser, greater}
-use Rattle.group.specs.Scalars.{item_or_null}
+use Rattle.arrays.specs.Prelude.{Item, Row, Table, int, is_null, item_of, null}
+use Rattle.evaluate.specs.Prelude.{Agg, Count, Greatest, Least, Rows, Sum}
+use Rattle.group.specs.Prelude.{greater, item_or_null, lesser, numbers_of}
 
 -- How many rows, items or numbers there were, the sum, and the least or the greatest.
 pub record TallyShape : Type 0 where

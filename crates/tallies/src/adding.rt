@@ -1,7 +1,7 @@
 //! The cells of groups, to which rows are added.
 
 ghost use Rattle.std.specs.Prelude.{◌≡◌, ◌<◌, ◌≤◌, ◌+◌, ◌^◌, ◌++◌, All, List, length};
-ghost use Rattle.arrays.specs.Item.{Item};
+ghost use Rattle.arrays.specs.Prelude.{Item};
 ghost use Rattle.tallies.specs.Picked.{items_at};
 ghost use Rattle.tallies.specs.Spread.{spread};
 ghost use Rattle.tallies.specs.Tallies.{AreTallies, HasRoomFor, tally_of};

@@ -2,11 +2,9 @@
 
 ghost use Rattle.std.specs.Prelude.{◌≡◌, OnOk, not, option_map};
 ghost use Rattle.std.specs.Ordering.{is_gt};
-ghost use Rattle.arrays.specs.Order.{order};
-ghost use Rattle.group.specs.Summary.{scalar_item};
-ghost use Rattle.arrays.specs.Item.{is_null};
+ghost use Rattle.arrays.specs.Prelude.{is_null, order};
+ghost use Rattle.group.specs.Prelude.{item_of_ref, scalar_item};
 ghost use Rattle.tallies.specs.Ends.{is_better, is_further, with_item};
-ghost use Rattle.group.specs.Scalars.{item_of_ref};
 
 use crate::end::End;
 use arrays::NoMemory;

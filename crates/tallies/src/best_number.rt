@@ -1,7 +1,7 @@
 //! The least or the greatest of numbers that come one by one.
 
 ghost use Rattle.std.specs.Prelude.{◌≡◌, ◌^◌, ◌≤ℤ◌, None, neg_ℤ, option_map, pos};
-ghost use Rattle.arrays.specs.Item.{int};
+ghost use Rattle.arrays.specs.Prelude.{int};
 ghost use Rattle.group.specs.Joined.{better};
 ghost use Rattle.tallies.specs.Ends.{further, number_if_any, with_item};
 

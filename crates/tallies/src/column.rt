@@ -2,8 +2,7 @@
 
 ghost use Rattle.std.specs.Prelude.{ℕ, ◌≡◌, ◌+◌, ◌≤◌, ◌<◌, ◌^◌, [], All, IfOk, List, None, OnOk, length, map};
 ghost use Rattle.arrays.specs.Batch.{Table, row_of};
-ghost use Rattle.evaluate.specs.CalledColumns.{sort_at};
-ghost use Rattle.evaluate.specs.FirstFault.{agg_fault};
+ghost use Rattle.evaluate.specs.Prelude.{agg_fault, sort_at};
 ghost use Rattle.group.specs.Scalars.{item_of_scalar};
 ghost use Rattle.tallies.specs.Columns.{column_of, rows_column, show_column, cell_of_group};
 ghost use Rattle.tallies.specs.Spread.{padded, spread};

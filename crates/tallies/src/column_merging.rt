@@ -1,8 +1,7 @@
 //! The tallies of one aggregate, to which those of the rows behind are added.
 
 ghost use Rattle.std.specs.Prelude.{◌≡◌, ◌<◌, ◌≤◌, ◌^◌, ℕ, [], All, List, OnOk, length, map};
-ghost use Rattle.arrays.specs.Batch.{Table};
-ghost use Rattle.arrays.specs.Kind.{Kind};
+ghost use Rattle.arrays.specs.Prelude.{Kind, Table};
 ghost use Rattle.tallies.specs.Columns.{column_of, show_column, show_item, show_number, show_total, IsColumnOf};
 ghost use Rattle.tallies.specs.Merging.{AreAlike, AreFew, IsBest, IsCount, IsSum, column_merged, spread_all};
 ghost use Rattle.tallies.specs.Spread.{padded};

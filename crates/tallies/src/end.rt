@@ -1,7 +1,7 @@
 //! The ends of an order.
 
 ghost use Rattle.std.specs.Prelude.{◌≡◌};
-ghost use Rattle.arrays.specs.Item.{int};
+ghost use Rattle.arrays.specs.Prelude.{int};
 ghost use Rattle.tallies.specs.Ends.{is_further};
 
 /// Which end of an order is requested.

@@ -1,8 +1,7 @@
 //! The least and the greatest of any items.
 
 ghost use Rattle.std.specs.Prelude.{◌≡◌, ◌<◌, ◌≤◌, All, IfOk, List, None, OnOk, false, length, map};
-ghost use Rattle.arrays.specs.Item.{Item};
-ghost use Rattle.arrays.specs.Slot.{is_list};
+ghost use Rattle.arrays.specs.Prelude.{Item, is_list};
 ghost use Rattle.tallies.specs.Columns.{show_item, show_number};
 ghost use Rattle.tallies.specs.Ends.{agg_at};
 ghost use Rattle.tallies.specs.Merging.{merge_all};

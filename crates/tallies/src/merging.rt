@@ -1,7 +1,7 @@
 //! The cells of groups, to which those of the rows behind theirs are added.
 
 ghost use Rattle.std.specs.Prelude.{◌≡◌, ◌<◌, ◌≤◌, ◌^◌, All, length, map};
-ghost use Rattle.evaluate.specs.Aggs.{Rows, Sum};
+ghost use Rattle.evaluate.specs.Prelude.{Rows, Sum};
 ghost use Rattle.tallies.specs.Columns.{show_number, show_total};
 ghost use Rattle.tallies.specs.Ends.{agg_at};
 ghost use Rattle.tallies.specs.Merging.{AreFew, merge_all};
@@ -14,7 +14,7 @@ use crate::total::Total;
 /// How the cells of items, and of items behind them, become one.
 pub(crate) trait Merge<C> {
     ghost use Rattle.std.specs.Prelude.{ℕ};
-    ghost use Rattle.evaluate.specs.Agg.{Agg};
+    ghost use Rattle.evaluate.specs.Prelude.{Agg};
     ghost use Rattle.tallies.specs.Merging.{merged};
     ghost use Rattle.tallies.specs.Tallies.{TallyShape};
 

@@ -1,10 +1,9 @@
 //! Sums and ends of columns of numbers, whose type is looked at once.
 
 ghost use Rattle.std.specs.Prelude.{◌≡◌, ◌<◌, All, List, length, true};
-ghost use Rattle.arrays.specs.Item.{Item};
+ghost use Rattle.arrays.specs.Prelude.{Item, is_int};
 ghost use Rattle.arrays.specs.Kind as kind;
-ghost use Rattle.arrays.specs.Slot.{is_int};
-ghost use Rattle.evaluate.specs.Aggs.{Sum};
+ghost use Rattle.evaluate.specs.Prelude.{Sum};
 ghost use Rattle.tallies.specs.Columns.{show_number, show_total};
 ghost use Rattle.tallies.specs.Ends.{agg_at};
 ghost use Rattle.tallies.specs.Picked.{items_at};

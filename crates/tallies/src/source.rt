@@ -1,10 +1,8 @@
 //! What rows add to the tallies of their groups.
 
 ghost use Rattle.std.specs.Prelude.{◌≡◌, ◌^◌, ◌<◌, ◌++◌, ◌∷◌, ℕ, [], List, length, replicate, slice_index_or};
-ghost use Rattle.arrays.specs.Item.{Item, null};
-ghost use Rattle.arrays.specs.Values.{number_items};
-ghost use Rattle.evaluate.specs.Agg.{Agg};
-ghost use Rattle.evaluate.specs.Aggs.{Rows, Count, Sum};
+ghost use Rattle.arrays.specs.Prelude.{Item, null, number_items};
+ghost use Rattle.evaluate.specs.Prelude.{Agg, Count, Rows, Sum};
 ghost use Rattle.tallies.specs.Columns.{show_number, show_total};
 ghost use Rattle.tallies.specs.Ends.{agg_at};
 ghost use Rattle.tallies.specs.Tallies.{TallyShape, counted, tally_of};
@@ -17,8 +15,8 @@ use arrays::{Integer, Ints, View};
 /// What each row of a batch adds to the cell of its group.
 pub(crate) trait Source<C> {
     ghost use Rattle.std.specs.Prelude.{ℕ, List};
-    ghost use Rattle.arrays.specs.Item.{Item};
-    ghost use Rattle.evaluate.specs.Agg.{Agg};
+    ghost use Rattle.arrays.specs.Prelude.{Item};
+    ghost use Rattle.evaluate.specs.Prelude.{Agg};
     ghost use Rattle.tallies.specs.Tallies.{TallyShape};
 
     // Whose tally a cell is, and which.

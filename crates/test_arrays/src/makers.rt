@@ -1,10 +1,8 @@
 //! Tests of arrays that are made of lawful parts, and of copies.
 
 ghost use Rattle.std.specs.Prelude.{◌≡◌, pos, [], ◌∷◌, Some, IfOk};
-ghost use Rattle.arrays.specs.Offsets.{AreOffsetBytes, offsets_in};
-ghost use Rattle.arrays.specs.Item.{int, null, text};
+ghost use Rattle.arrays.specs.Prelude.{AreOffsetBytes, int, int32, null, offsets_in, text};
 ghost use Rattle.arrays.specs.Kind as kind;
-ghost use Rattle.arrays.specs.Kind.{int32};
 
 use arrays::{
     Array, Buffer, DataType, IntBuilder, IntType, LayoutFault, OffsetSlots, OffsetWidth,

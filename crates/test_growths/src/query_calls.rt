@@ -2,8 +2,7 @@
 
 ghost use Rattle.std.specs.Prelude.{◌≡◌, true};
 ghost use Rattle.std.specs.Arc.{arc_value};
-ghost use Rattle.selqumar_core.specs.QueryShape.{query_shape};
-ghost use Rattle.selqumar_core.specs.FirstFault.{fits};
+ghost use Rattle.selqumar_core.specs.Prelude.{fits, query_shape};
 
 use crate::permit::Permit;
 use crate::refusals::Refused;

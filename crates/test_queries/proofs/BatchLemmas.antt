@@ -4,12 +4,9 @@ use Rattle.std.proofs.lemmas.Grind.{flat_map-append}
 use Rattle.std.proofs.lemmas.List.{append-nil, get_or-map, length-map, take_more}
 use Rattle.std.proofs.lemmas.List.Elements.{All-from_recursion, All-weaker}
 use Rattle.std.proofs.lemmas.List.FromFn.{length-map-range_with_len}
-use Rattle.arrays.specs.Batch.{Batch, row_of, rows_of}
-use Rattle.arrays.specs.Shape.{FieldShape, kind_of_field}
-use Rattle.answers.specs.QueryShape.{QueryShape}
-use Rattle.answers.specs.FirstFault.{fits}
-use Rattle.answers.specs.Answers.{all_rows, first_fields}
-use Rattle.arrow_json.specs.JsonFile.{AreUnder}
+use Rattle.arrays.specs.Prelude.{Batch, FieldShape, kind_of_field, row_of, rows_of}
+use Rattle.answers.specs.Prelude.{QueryShape, all_rows, first_fields, fits}
+use Rattle.arrow_json.specs.Prelude.{AreUnder}
 
 pub more_rows : {A : Type 0} (f : A → Batch) (xs : List A) (i : ℕ) (x : A) → i < length xs → x ≡ get_or xs i x
     → length (all_rows (take (i + 1) (map f xs))) ≡ length (all_rows (take i (map f xs))) + (f x).rows

@@ -2,11 +2,8 @@
 
 ghost use Rattle.std.specs.Prelude.{◌≡◌, All, IfOk, IfSome, length, map, true};
 ghost use Rattle.std.specs.Arc.{arc_value};
-ghost use Rattle.arrays.specs.Shape.{kind_of_field};
-ghost use Rattle.arrays.specs.Batch.{Batch};
-ghost use Rattle.answers.specs.QueryShape.{query_shape};
-ghost use Rattle.answers.specs.FirstFault.{fits};
-ghost use Rattle.answers.specs.Answers.{all_rows, first_fields};
+ghost use Rattle.arrays.specs.Prelude.{Batch, kind_of_field};
+ghost use Rattle.answers.specs.Prelude.{all_rows, first_fields, fits, query_shape};
 
 use answers::{Answer, Gate, Query, QueryFault, Scalar, answer, answer_alone, resolve};
 use arrays::RecordBatch;

@@ -3,17 +3,11 @@ use Rattle.std.proofs.Common.{◌≡◌, ◌∙◌, ℕ, ◌+◌, ◌<◌, List,
 use Rattle.std.specs.List.{range_with_len}
 use Rattle.std.proofs.lemmas.List.FromFn.{fill_by_all, length-map-range_with_len, get_or-map-range_with_len}
 use Rattle.std.proofs.lemmas.Simd.{map-map}
-use Rattle.colbits.specs.Bit.{bit, bits}
-use Rattle.colbits.specs.Bitmap.{IsBitmapOf}
+use Rattle.colbits.specs.Prelude.{IsBitmapOf, bit, bits}
 use Rattle.colbits.proofs.BitLemmas.{get_or-bits}
-use Rattle.arrays.specs.Item.{Item, null, boolean, is_null}
+use Rattle.arrays.specs.Prelude.{Item, Seen, boolean, bytes_for, is_null, is_valid_in, is_validity_short, kept, no_entries, null, show_bits, shown, validity_of}
 use Rattle.arrays.specs.Kind as kind
-use Rattle.arrays.specs.Layout.{is_valid_in}
-use Rattle.arrays.specs.Fault.{is_validity_short, bytes_for}
-use Rattle.arrays.specs.FromParts.{show_bits}
-use Rattle.arrays.specs.Seen.{Seen, no_entries}
 use Rattle.arrays.proofs.RangeLists.{map-range-below}
-use Rattle.arrays.specs.Shown.{kept, shown, validity_of}
 use Rattle.truths.specs.Truth.{truth_at, truths_of}
 use Rattle.arrays.proofs.ValidityLemmas.{IsKept}
 

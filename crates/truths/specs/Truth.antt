@@ -2,7 +2,7 @@
 use Rattle.std.specs.Prelude.{ℕ, List, map, Bool, if◌then◌else◌}
 use Rattle.std.specs.List.{range_with_len}
 use Rattle.arrays.specs.Item as item
-use Rattle.arrays.specs.Item.{Item, null}
+use Rattle.arrays.specs.Prelude.{Item, null}
 
 -- The value at a place where it is known, else null.
 abbrev pub truth_at : (ℕ → Bool) → (ℕ → Bool) → ℕ → Item

@@ -1,7 +1,7 @@
 -- The slots that are valid in both of two columns.
 use Rattle.std.specs.Prelude.{ℕ, ◌&&◌, List, Bool, map, length}
 use Rattle.std.specs.List.{range_with_len}
-use Rattle.arrays.specs.Seen.{Seen, valid_at}
+use Rattle.arrays.specs.Prelude.{Seen, valid_at}
 
 abbrev pub valid_in_both : Seen → Seen → ℕ → Bool
 valid_in_both a b i = valid_at a i && valid_at b i

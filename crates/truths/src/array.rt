@@ -3,9 +3,8 @@
 ghost use Rattle.std.specs.Prelude.{◌≡◌, ◌≤◌, map, IfOk};
 ghost use Rattle.std.specs.List.{range_with_len};
 ghost use Rattle.arrays.specs.Kind as kind;
-ghost use Rattle.arrays.specs.Shown.{kept, shown};
+ghost use Rattle.arrays.specs.Prelude.{kept, most_slots, shown};
 ghost use Rattle.truths.specs.Truth.{truths_of};
-ghost use Rattle.arrays.specs.Limits.{most_slots};
 
 use arrays::Array;
 use arrays::validity::{buffer_of, validity_of};

@@ -1,9 +1,7 @@
 //! The slots that are valid in a view, or in both of two, and those that have an item.
 
 ghost use Rattle.std.specs.Prelude.{◌≡◌, length, IfOk};
-ghost use Rattle.arrays.specs.Seen.{valid_in};
-ghost use Rattle.arrays.specs.Shown.{kept};
-ghost use Rattle.arrays.specs.Slot.{holds_at};
+ghost use Rattle.arrays.specs.Prelude.{holds_at, kept, valid_in};
 ghost use Rattle.truths.specs.Valid.{both_valid};
 
 use crate::array::known_of;

@@ -4,12 +4,10 @@ use lib.Seq.{drop-nil}
 use Rattle.std.specs.Int.{from_le_bytes, cast_signed, bit_at, w32, w64}
 use Rattle.std.proofs.lemmas.List.{get_or-take, get_or-drop, get_or_past}
 use Rattle.std.proofs.lemmas.Nat.Bits.{shr_and_one, bit_at-zero}
-use Rattle.colbits.specs.Bit.{bit}
-use Rattle.colbits.specs.Slice.{slice}
+use Rattle.colbits.specs.Prelude.{bit, slice}
 use Rattle.types.specs.declared.offset_width.OffsetWidth.{OffsetWidth}
 use Rattle.types.specs.declared.offset_width.OffsetWidth.TheVariants.{Narrow, Wide}
-use Rattle.types.specs.OffsetSize.{offset_type}
-use Rattle.types.specs.Number.{number_at}
+use Rattle.types.specs.Prelude.{number_at, offset_type}
 
 -- an element of a part
 pub get_or-slice : (bytes : List ℕ) (start n i : ℕ) → i < n → get_or (slice bytes start n) i 0 ≡ get_or bytes (start + i) 0

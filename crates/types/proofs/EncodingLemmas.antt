@@ -9,8 +9,7 @@ use Rattle.std.specs.Int.{Width as Bits, cast_signed, cast_unsigned, to_le_bytes
 use Rattle.types.specs.declared.int_type.Width.{Width}
 use Rattle.types.specs.declared.int_type.Width.TheVariants.{W8, W16, W32, W64}
 use Rattle.types.specs.declared.int_type.IntType.{IntType}
-use Rattle.types.specs.Kind.{bits_of, bytes_of}
-use Rattle.types.specs.Number.{number_at, natural, IsOfType, bytes_of_number}
+use Rattle.types.specs.Prelude.{IsOfType, bits_of, bytes_of, bytes_of_number, natural, number_at}
 use Rattle.colbits.specs.Slice.{slice}
 
 -- ---- parts of lists joined

@@ -5,8 +5,7 @@ use Rattle.std.specs.Simd.{first_chunks}
 use Rattle.std.proofs.lemmas.Int.{to_z-of_z}
 use Rattle.std.proofs.lemmas.List.{drop-drop}
 use Rattle.colbits.specs.Slice.{slice}
-use Rattle.types.specs.Kind.{bits_of, bytes_of}
-use Rattle.types.specs.Number.{number_at}
+use Rattle.types.specs.Prelude.{bits_of, bytes_of, number_at}
 use Rattle.types.specs.declared.int_type.Width.{Width}
 
 next : (j n : ℕ) → n + j * n ≡ suc j * n

@@ -10,9 +10,7 @@ use Rattle.types.specs.declared.int_type.Width.TheVariants.{W8, W16, W32, W64}
 use Rattle.types.specs.declared.int_type.IntType.{IntType}
 use Rattle.types.specs.declared.offset_width.OffsetWidth.{OffsetWidth}
 use Rattle.types.specs.declared.offset_width.OffsetWidth.TheVariants.{Narrow, Wide}
-use Rattle.types.specs.OffsetSize.{most_of, offset_type}
-use Rattle.types.specs.Kind.{bits_of, bytes_of}
-use Rattle.types.specs.Number.{IsOfType, is_of_type, natural, number_at}
+use Rattle.types.specs.Prelude.{IsOfType, bits_of, bytes_of, is_of_type, most_of, natural, number_at, offset_type}
 use Rattle.types.proofs.ByteLemmas.{get_or-slice}
 
 within : (w : Width) (signed : Bool) (z : ℤ) → is_of_type (record { bits = w; signed = signed }) z ≡ true → IsOfType (record { bits = w; signed = signed }) z

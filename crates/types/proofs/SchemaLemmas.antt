@@ -5,9 +5,7 @@ use Rattle.std.specs.List.{position_or_len}
 use Rattle.std.specs.Option.{option_or}
 use Rattle.types.specs.declared.data_type.Field.{Field, out-Field}
 use Rattle.types.specs.declared.schema.SchemaFault.TheVariants.{TooDeep, DictInList}
-use Rattle.types.specs.Schema.{schema_fault, holds_dict, is_shallow_with_dict}
-use Rattle.types.specs.Kind.{Kind, kind_of, depth, has_dict_in_list}
-use Rattle.types.specs.Shape.{fields_of, field_of, kind_of_field}
+use Rattle.types.specs.Prelude.{Kind, depth, field_of, fields_of, has_dict_in_list, holds_dict, is_shallow_with_dict, kind_of, kind_of_field, schema_fault}
 use Rattle.types.proofs.ShapeLemmas.{kind_of_field-field_of}
 
 position_or_len-map : {A B : Type 0} (p : B → Bool) (q : A → Bool) (f : A → B) → ((x : A) → p (f x) ≡ q x) → (xs : List A) → position_or_len p (map f xs) ≡ position_or_len q xs

@@ -11,9 +11,8 @@ use Rattle.types.specs.declared.int_type.IntType.{IntType}
 use Rattle.types.specs.declared.offset_width.OffsetWidth.{OffsetWidth}
 use Rattle.types.specs.declared.offset_width.OffsetWidth.TheVariants.{Narrow, Wide}
 use Rattle.types.specs.Kind as kind
-use Rattle.types.specs.Kind.{Kind, kind_of, kind_step}
+use Rattle.types.specs.Prelude.{FieldShape, Kind, Shape, field_of, field_step, kind_of, kind_of_field, kind_of_shape, kind_step, shape_of, shape_step}
 use Rattle.types.specs.Shape as shape
-use Rattle.types.specs.Shape.{Shape, FieldShape, shape_step, field_step, shape_of, field_of, kind_of_shape, kind_of_field}
 
 -- a fold at a type whose level is known
 folded : (A B : Type 0) (step : DataType-F A B → A) (field : Field-F A B → B) (t : DataType) (level : DataType-F DataType Field) → out-DataType t ≡ level

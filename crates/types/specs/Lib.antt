@@ -6,3 +6,4 @@ pub mod Number
 pub mod FieldCode
 pub mod Limits
 pub mod OffsetSize
+pub mod Prelude

@@ -1,11 +1,7 @@
 ghost use Rattle.std.specs.Prelude.{◌≡◌, ◌*◌, ◌<◌, ◌≤◌, length, false, Some, IfOk};
-ghost use Rattle.types.specs.Kind.{bytes_of, depth, dict, kind_of, same_kind};
-ghost use Rattle.layout.specs.Fault.{is_validity_short};
+ghost use Rattle.types.specs.Prelude.{bytes_of, depth, dict, kind_of, most_slots, same_kind};
+ghost use Rattle.layout.specs.Prelude.{AreOffsetBytes, checked, is_validity_short, reading};
 ghost use Rattle.arrays.specs.FromParts.{AreTexts, show_bits, show_lists, show_numbers, show_texts};
-ghost use Rattle.layout.specs.Offsets.{AreOffsetBytes};
-ghost use Rattle.layout.specs.Reading.{reading};
-ghost use Rattle.layout.specs.Checked.{checked};
-ghost use Rattle.types.specs.Limits.{most_slots};
 
 use super::Array;
 use super::parts::{Parts, into_raw};

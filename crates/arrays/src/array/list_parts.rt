@@ -1,7 +1,6 @@
 ghost use Rattle.std.specs.Prelude.{◌≡◌, ◌⊎◌, false, None, Some, IfErr, IfOk};
 ghost use Rattle.types.specs.Kind.{dict, kind_of, same_kind};
-ghost use Rattle.layout.specs.Inner.{own_fault_of};
-ghost use Rattle.layout.specs.Reading.{reading};
+ghost use Rattle.layout.specs.Prelude.{own_fault_of, reading};
 ghost use Rattle.arrays.specs.FromParts.{list_parts};
 
 use super::Array;

@@ -1,8 +1,7 @@
 ghost use Rattle.std.specs.Prelude.{◌≡◌, ◌≤◌, false, IfOk, None, replicate};
 ghost use Rattle.arrays.specs.Nulls.{nulls};
 ghost use Rattle.types.specs.Kind as kind;
-ghost use Rattle.types.specs.Kind.{depth, has_dict_in_list, kind_of};
-ghost use Rattle.types.specs.Limits.{most_slots};
+ghost use Rattle.types.specs.Prelude.{depth, has_dict_in_list, kind_of, most_slots};
 
 use super::Array;
 use crate::builder::IntBuilder;

@@ -3,8 +3,7 @@
 ghost use Rattle.std.specs.Prelude.{◌≡◌, ◌||◌, IfErr, IfOk, length, map, option_map};
 ghost use Rattle.std.specs.Option.{ForSome, option_copied};
 ghost use Rattle.types.specs.Kind as kind;
-ghost use Rattle.types.specs.Number.{IsOfType};
-ghost use Rattle.types.specs.OffsetSize.{is_full};
+ghost use Rattle.types.specs.Prelude.{IsOfType, is_full};
 ghost use Rattle.types.specs.declared.offset_width.OffsetWidth.TheVariants.{Narrow};
 ghost use Rattle.arrays.specs.Lengths.{IsFull, is_past, text_bytes};
 ghost use Rattle.arrays.specs.Shown.{shown};

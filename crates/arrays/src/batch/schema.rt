@@ -27,8 +27,7 @@ enum Owner {
 impl Model for BatchSchema {
     ghost use Rattle.std.specs.Prelude.{List};
     ghost use Rattle.std.specs.Coded.{coded_list};
-    ghost use Rattle.types.specs.FieldCode.{field_code};
-    ghost use Rattle.types.specs.Shape.{FieldShape};
+    ghost use Rattle.types.specs.Prelude.{FieldShape, field_code};
     ghost use Rattle.arrays.specs.BatchSchema.{show_schema};
 
     ghost Value = { List FieldShape };

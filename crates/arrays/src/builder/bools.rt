@@ -23,8 +23,7 @@ pub struct BoolBuilder {
 
 impl Model for BoolBuilder {
     ghost use Rattle.std.specs.Prelude.{◌≡◌, List, length};
-    ghost use Rattle.layout.specs.Item.{Item};
-    ghost use Rattle.layout.specs.SeenCode.{items_code};
+    ghost use Rattle.layout.specs.Prelude.{Item, items_code};
     ghost use Rattle.arrays.specs.Growing.{bools_where};
 
     ghost Value = { List Item };

@@ -2,10 +2,9 @@
 
 ghost use Rattle.std.specs.Prelude.{◌≡◌, ◌<◌, ◌≤◌, ℕ, Option, [], ◌∷◌, ◌++◌, false, length, IfErr, IfOk, OnErr, OnOk};
 ghost use Rattle.types.specs.Kind as kind;
-ghost use Rattle.types.specs.Kind.{depth, dict, kind_of, same_kind};
+ghost use Rattle.types.specs.Prelude.{depth, dict, kind_of, most_slots, same_kind};
 ghost use Rattle.arrays.specs.Lengths.{IsBuildFault, cut, is_past, total};
 ghost use Rattle.arrays.specs.Shown.{shown};
-ghost use Rattle.types.specs.Limits.{most_slots};
 
 use super::fault::BuildFault;
 use super::offsets::OffsetsBuilder;

@@ -4,8 +4,7 @@ ghost use Rattle.std.specs.Prelude.{◌≡◌, ◌+◌, ◌<◌, ◌≤◌, [], 
 ghost use Rattle.arrays.specs.Growing.{AreLaid, lengths_by};
 ghost use Rattle.arrays.specs.Lengths.{total};
 ghost use Rattle.layout.specs.Offsets.{AreBytesOf, AreOffsets, start_of};
-ghost use Rattle.types.specs.Limits.{most_slots};
-ghost use Rattle.types.specs.OffsetSize.{most_of};
+ghost use Rattle.types.specs.Prelude.{most_of, most_slots};
 
 use super::validity::ValidityBuilder;
 use crate::offset_slots::OffsetSlots;

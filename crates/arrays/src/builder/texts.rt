@@ -8,8 +8,7 @@ ghost use Rattle.arrays.specs.Lengths.{IsBuildFault, IsFull, text_bytes};
 ghost use Rattle.arrays.specs.Shown.{shown};
 ghost use Rattle.arrays.specs.Slot.{item_of_text};
 ghost use Rattle.arrays.specs.Values.{items_of_texts};
-ghost use Rattle.types.specs.Limits.{most_slots};
-ghost use Rattle.types.specs.OffsetSize.{is_full};
+ghost use Rattle.types.specs.Prelude.{is_full, most_slots};
 
 use super::fault::BuildFault;
 use super::offsets::OffsetsBuilder;

@@ -3,11 +3,9 @@
 ghost use Rattle.std.specs.Prelude.{◌≡◌, ◌*◌, ◌<◌, ◌≤◌, ◌^◌, ◌≤ℤ◌, length, neg_ℤ, pos};
 ghost use Rattle.std.specs.Option.{ForSome};
 ghost use Rattle.types.specs.Kind as kind;
-ghost use Rattle.types.specs.Kind.{bytes_of};
-ghost use Rattle.types.specs.Number.{IsOfType, number_at};
+ghost use Rattle.types.specs.Prelude.{IsOfType, bytes_of, most_slots, number_at};
 ghost use Rattle.arrays.specs.Slot.{item_at, item_of};
 ghost use Rattle.arrays.specs.Values.{HasNumbers, number_in, number_items};
-ghost use Rattle.types.specs.Limits.{most_slots};
 
 use crate::validity::is_valid;
 use crate::view::View;

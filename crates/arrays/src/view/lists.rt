@@ -2,10 +2,8 @@
 
 ghost use Rattle.std.specs.Prelude.{◌≡◌, ◌+◌, ◌<◌, ◌≤◌, ℕ, None, false, length, true};
 ghost use Rattle.types.specs.Kind as kind;
-ghost use Rattle.types.specs.Kind.{depth, kind_of, same_kind};
-ghost use Rattle.types.specs.Limits.{most_slots};
-ghost use Rattle.layout.specs.Offsets.{AreOffsets, start_of};
-ghost use Rattle.layout.specs.Reading.{fault, reading};
+ghost use Rattle.types.specs.Prelude.{depth, kind_of, most_slots, same_kind};
+ghost use Rattle.layout.specs.Prelude.{AreOffsets, fault, reading, start_of};
 ghost use Rattle.layout.specs.declared.raw.RawArray.{out-RawArray};
 ghost use Rattle.arrays.specs.Slot.{is_list, item_at};
 

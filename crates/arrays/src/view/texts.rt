@@ -5,10 +5,8 @@ ghost use Rattle.colbits.specs.Slice.{slice};
 ghost use Rattle.std.specs.Option.{option_copied};
 ghost use Rattle.std.specs.Str.{is_utf8};
 ghost use Rattle.types.specs.Kind as kind;
-ghost use Rattle.types.specs.Limits.{most_slots};
-ghost use Rattle.types.specs.OffsetSize.{most_of};
-ghost use Rattle.layout.specs.Offsets.{AreOffsets, of_slot, start_of};
-ghost use Rattle.layout.specs.Seen.{valid_in};
+ghost use Rattle.types.specs.Prelude.{most_of, most_slots};
+ghost use Rattle.layout.specs.Prelude.{AreOffsets, of_slot, start_of, valid_in};
 ghost use Rattle.arrays.specs.Slot.{item_at, item_of_text};
 
 use crate::validity::is_valid;

@@ -1,18 +1,13 @@
 use Rattle.std.proofs.Common.{◌≡◌, ◌∙◌, ℕ, [], Result, Ok, IfErr, ap, sym, subst, rules}
 use Rattle.std.specs.Result.{MatchResult, IsErrAnd}
-use Rattle.json_base.specs.Data.{Data}
-use Rattle.json_base.specs.View.{view}
-use Rattle.arrays.specs.Field.{Field, out-Field}
+use Rattle.json_base.specs.Prelude.{Data, IsUnder, Tells, view}
+use Rattle.arrays.specs.Prelude.{Field, Kind, Narrow, OffsetWidth, Wide, kind_of, out-Field}
 use Rattle.arrays.proofs.ShapeLemmas.{kind_of-List, kind_of-LargeList}
-use Rattle.arrays.specs.OffsetWidth.{OffsetWidth}
-use Rattle.arrays.specs.OffsetWidths.{Narrow, Wide}
 use Rattle.json_base.specs.declared.fault.JsonFault.{JsonFault}
 use Rattle.arrays.specs.Kind as kind
-use Rattle.arrays.specs.Kind.{Kind, kind_of}
 use Rattle.arrays.proofs.DictionaryLemmas.{kind_of-Dict}
 use Rattle.json_base.specs.declared.fault.JsonFaultKind.TheVariants.{UnsupportedType}
 use Rattle.json_read.specs.JsonBatchFault.{KindFault}
-use Rattle.json_base.specs.FaultAt.{Tells, IsUnder}
 use Rattle.json_base.specs.declared.path.Member.TheVariants as member
 use Rattle.json_base.specs.declared.path.Step.TheVariants as step
 use Rattle.json_read.proofs.JsonBatches.{tells_unread}

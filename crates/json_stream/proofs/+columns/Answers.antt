@@ -1,13 +1,9 @@
 use Rattle.std.proofs.Common.{◌≡◌, ◌∙◌, ◌-◌, drop, length, ap, sym, subst, rules}
 use Rattle.std.specs.Prelude.{IfOk}
-use Rattle.arrays.specs.Field.{Field, out-Field}
-use Rattle.arrays.specs.OffsetWidth.{OffsetWidth}
-use Rattle.arrays.specs.OffsetWidths.{Narrow, Wide}
+use Rattle.arrays.specs.Prelude.{Field, Kind, Narrow, OffsetWidth, Wide, kind_of, out-Field}
 use Rattle.arrays.proofs.ShapeLemmas.{kind_of-List, kind_of-LargeList}
 use Rattle.arrays.specs.Kind as kind
-use Rattle.arrays.specs.Kind.{Kind, kind_of}
-use Rattle.json_read.specs.Data.{Data, object}
-use Rattle.json_read.specs.JsonBatch.{HoldsColumn}
+use Rattle.json_read.specs.Prelude.{Data, HoldsColumn, object}
 use Rattle.json_scan.specs.Spelling.{SpellsAt}
 use Rattle.json_stream.proofs.ListLemmas.{child_below, child_there, child_held, lists_held}
 use Rattle.json_stream.proofs.+columns.Goals as goal

@@ -3,11 +3,8 @@
 ghost use Rattle.std.specs.Prelude.{◌≡◌, ◌≤◌, true, false, length, slice_index_or};
 ghost use Rattle.std.specs.Cmp.Lexicographic.{slice_cmp};
 ghost use Rattle.std.specs.Ordering.{bool_cmp, int_cmp, nat_cmp};
-ghost use Rattle.arrays.specs.Offsets.{of_slot};
-ghost use Rattle.arrays.specs.Slot.{is_text, item_at};
-ghost use Rattle.arrays.specs.Order.{order};
+ghost use Rattle.arrays.specs.Prelude.{is_text, item_at, most_slots, of_slot, order};
 ghost use Rattle.kernels.specs.Wanted.{wants};
-ghost use Rattle.arrays.specs.Limits.{most_slots};
 
 use super::packed::{Equal, Less, chosen, tests};
 use super::wanted::Wanted;

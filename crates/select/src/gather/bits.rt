@@ -2,10 +2,7 @@
 
 ghost use Rattle.std.specs.Prelude.{◌≡◌, ◌&&◌, ◌/◌, ◌+◌, ℕ, ◌≤◌, None, drop, length, map, nat_lt, slice_index_or, IfOk};
 ghost use Rattle.std.specs.List.{range_with_len};
-ghost use Rattle.arrays.specs.Bit.{bit_in};
-ghost use Rattle.arrays.specs.Bitmap.{IsBitmapOf};
-ghost use Rattle.arrays.specs.Packed.{IsBufferOf};
-ghost use Rattle.arrays.specs.Shown.{kept};
+ghost use Rattle.arrays.specs.Prelude.{IsBitmapOf, IsBufferOf, bit_in, kept};
 ghost use Rattle.select.specs.Stored.{is_stored};
 
 use crate::rows::{Place, Rows};

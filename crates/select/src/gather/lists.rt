@@ -2,12 +2,10 @@
 
 ghost use Rattle.std.specs.Prelude.{◌≡◌, ◌+◌, ◌<◌, ◌++◌, ◌||◌, ◌∷◌, [], map, length, option_map, IfErr, IfOk, OnOk};
 ghost use Rattle.std.specs.List.{All};
-ghost use Rattle.arrays.specs.Lengths.{inner_items, is_past, list_length, total};
-ghost use Rattle.arrays.specs.Values.{IsRange, item_of_range, items_of_lists};
+ghost use Rattle.arrays.specs.Prelude.{IsRange, inner_items, is_past, item_of_range, items_of_lists, list_length, most_slots, total};
 ghost use Rattle.select.specs.Fault.{IsFull};
 ghost use Rattle.select.specs.Picked.{IsPick, picked, picked_at};
 ghost use Rattle.select.specs.Ranges.{rows_of};
-ghost use Rattle.arrays.specs.Limits.{most_slots};
 
 use crate::fault::SelectFault;
 use crate::picks::Picks;

@@ -3,8 +3,7 @@
 ghost use Rattle.std.specs.Prelude.{◌≡◌, IfOk, IfSome, length};
 ghost use Rattle.std.specs.List.{All};
 ghost use Rattle.arrays.specs.Kind as kind;
-ghost use Rattle.arrays.specs.Number.{IsOfType, number_at};
-ghost use Rattle.arrays.specs.Shown.{shown};
+ghost use Rattle.arrays.specs.Prelude.{IsOfType, number_at, shown};
 ghost use Rattle.select.specs.Picked.{IsPick, picked};
 ghost use Rattle.select.specs.Stored.{AreStored};
 

@@ -4,15 +4,10 @@ ghost use Rattle.std.specs.Prelude.{◌≡◌, ◌+◌, ◌≤◌, ◌++◌, IfE
 ghost use Rattle.std.specs.List.{All};
 ghost use Rattle.std.specs.Option.{option_copied};
 ghost use Rattle.arrays.specs.Kind as kind;
-ghost use Rattle.arrays.specs.Lengths.{text_bytes, text_length};
-ghost use Rattle.arrays.specs.Shown.{shown};
-ghost use Rattle.arrays.specs.Slot.{item_of_text};
-ghost use Rattle.arrays.specs.Values.{items_of_texts};
+ghost use Rattle.arrays.specs.Prelude.{Wide, is_full, item_of_text, items_of_texts, most_of, shown, text_bytes, text_length};
 ghost use Rattle.select.specs.Fault.{IsFull};
 ghost use Rattle.select.specs.Picked.{IsPick, picked, picked_at};
 ghost use Rattle.select.specs.Texts.{AreOffsetsOf, all_bytes, bytes_in};
-ghost use Rattle.arrays.specs.OffsetWidths.{Wide};
-ghost use Rattle.arrays.specs.OffsetSize.{is_full, most_of};
 
 use super::bits::picked_validity;
 use crate::fault::SelectFault;

@@ -3,10 +3,7 @@
 ghost use Rattle.std.specs.Prelude.{◌≡◌, ◌+◌, ◌++◌, ◌≤◌, IfOk, OnOk, length};
 ghost use Rattle.std.specs.List.{All};
 ghost use Rattle.arrays.specs.Kind as kind;
-ghost use Rattle.arrays.specs.Seen.{Seen};
-ghost use Rattle.arrays.specs.Shown.{shown};
-ghost use Rattle.arrays.specs.Lengths.{joined_items};
-ghost use Rattle.arrays.specs.Limits.{most_slots};
+ghost use Rattle.arrays.specs.Prelude.{Seen, joined_items, most_slots, shown};
 
 use arrays::{Array, BoolBuilder, NoMemory, View};
 use std::alloc::Global;

@@ -3,16 +3,10 @@
 ghost use Rattle.std.specs.Prelude.{◌≡◌, ◌+◌, ◌++◌, ◌<◌, ◌≤◌, IfErr, IfOk, OnOk, length, map};
 ghost use Rattle.std.specs.List.{All};
 ghost use Rattle.std.specs.Option.{ForSome};
-ghost use Rattle.arrays.specs.Slot.{item_of};
+ghost use Rattle.arrays.specs.Prelude.{IsOfType, Seen, int32, item_of, joined_items, most_slots, shown};
 ghost use Rattle.arrays.specs.Kind as kind;
-ghost use Rattle.arrays.specs.Kind.{int32};
-ghost use Rattle.arrays.specs.Number.{IsOfType};
-ghost use Rattle.arrays.specs.Seen.{Seen};
-ghost use Rattle.arrays.specs.Shown.{shown};
 ghost use Rattle.select.specs.Fault.{IsFull};
 ghost use Rattle.select.specs.Joined.{IsEncoded, is_content_too_big, joined, joined_codes, joined_entries, shifted};
-ghost use Rattle.arrays.specs.Lengths.{joined_items};
-ghost use Rattle.arrays.specs.Limits.{most_slots};
 
 use super::{slots_of, texts};
 use crate::fault::SelectFault;

@@ -2,15 +2,9 @@
 
 ghost use Rattle.std.specs.Prelude.{◌≡◌, ◌+◌, ◌++◌, ◌||◌, ◌<◌, ◌≤◌, IfErr, IfOk, OnOk, Some, length, map, slice_index_or, true};
 ghost use Rattle.std.specs.List.{All};
-ghost use Rattle.arrays.specs.Kind.{item_kind, kind_of};
-ghost use Rattle.arrays.specs.Lengths.{inner_items, is_past, is_too_big, joined_items, list_length, total};
-ghost use Rattle.arrays.specs.Item.{null};
-ghost use Rattle.arrays.specs.Seen.{Seen};
-ghost use Rattle.arrays.specs.Slot.{is_list};
-ghost use Rattle.arrays.specs.Field.{out-Field};
+ghost use Rattle.arrays.specs.Prelude.{Seen, inner_items, is_list, is_past, is_too_big, item_kind, joined_items, kind_of, list_length, most_slots, null, out-Field, total};
 ghost use Rattle.select.specs.Children.{AreChildren, IsChild};
 ghost use Rattle.select.specs.Fault.{IsFull};
-ghost use Rattle.arrays.specs.Limits.{most_slots};
 
 use crate::fault::SelectFault;
 use crate::gather::{gather_picks, spread_out};

@@ -3,11 +3,8 @@
 ghost use Rattle.std.specs.Prelude.{◌≡◌, ◌≤◌, IfOk, length};
 ghost use Rattle.std.specs.List.{All};
 ghost use Rattle.arrays.specs.Kind as kind;
-ghost use Rattle.arrays.specs.Seen.{Seen};
-ghost use Rattle.arrays.specs.Shown.{shown};
+ghost use Rattle.arrays.specs.Prelude.{Seen, joined_items, most_slots, shown};
 ghost use Rattle.select.specs.Joined.{AreNumbersOf, TellsNulls};
-ghost use Rattle.arrays.specs.Lengths.{joined_items};
-ghost use Rattle.arrays.specs.Limits.{most_slots};
 
 use super::valid::joined_validity;
 use arrays::validity::buffer_of;

@@ -3,12 +3,8 @@
 ghost use Rattle.std.specs.Prelude.{◌≡◌, ◌≤◌, IfErr, IfOk, length};
 ghost use Rattle.std.specs.List.{All};
 ghost use Rattle.arrays.specs.Kind as kind;
-ghost use Rattle.arrays.specs.Lengths.{joined_items, text_bytes};
-ghost use Rattle.arrays.specs.Seen.{Seen};
-ghost use Rattle.arrays.specs.Shown.{shown};
+ghost use Rattle.arrays.specs.Prelude.{Seen, is_full, joined_items, most_slots, shown, text_bytes};
 ghost use Rattle.select.specs.Fault.{IsFull};
-ghost use Rattle.arrays.specs.Limits.{most_slots};
-ghost use Rattle.arrays.specs.OffsetSize.{is_full};
 
 use crate::fault::SelectFault;
 use arrays::{Array, OffsetWidth, TextBuilder, View};

@@ -2,12 +2,8 @@
 
 ghost use Rattle.std.specs.Prelude.{◌≡◌, ℕ, ◌+◌, ◌<◌, ◌≤◌, Option, false, is_some, length, not, slice_index_or, IfOk};
 ghost use Rattle.std.specs.List.{list_all};
-ghost use Rattle.arrays.specs.Bit.{bit_in};
-ghost use Rattle.arrays.specs.Seen.{Seen};
-ghost use Rattle.arrays.specs.Shown.{kept};
+ghost use Rattle.arrays.specs.Prelude.{Seen, bit_in, joined_items, kept, most_slots};
 ghost use Rattle.select.specs.Joined.{AreStarts, IsPlace, joined_valid};
-ghost use Rattle.arrays.specs.Lengths.{joined_items};
-ghost use Rattle.arrays.specs.Limits.{most_slots};
 
 use arrays::validity::{valid_word, validity_of};
 use arrays::{BitmapBuf, NoMemory, Places, View};

@@ -3,9 +3,7 @@
 ghost use Rattle.std.specs.Prelude.{◌≡◌, [], IfOk, map, option_map};
 ghost use Rattle.std.specs.Arc.{arc_value};
 ghost use Rattle.arrays.specs.Kind as kind;
-ghost use Rattle.arrays.specs.Kind.{kind_of};
-ghost use Rattle.arrays.specs.Shape.{fields_of};
-ghost use Rattle.arrays.specs.Shown.{shown};
+ghost use Rattle.arrays.specs.Prelude.{fields_of, kind_of, shown};
 ghost use Rattle.table.specs.Storage.{IsConsistent, show};
 ghost use Rattle.table.specs.Lawful.{dictionaries_of};
 ghost use Rattle.compaction.specs.Statistics.{AreStatsOf};

@@ -3,8 +3,7 @@ use Rattle.std.specs.Arc.{arc_value}
 use Rattle.std.proofs.lemmas.Result.{err_from_is_err_and}
 use Rattle.arrays.specs.Batch.{Batch}
 use Rattle.query.specs.QueryShape.{query_shape}
-use Rattle.answers.specs.Answers.{all_rows, first_fields, group_shape}
-use Rattle.answers.specs.Groups.{is_kept}
+use Rattle.answers.specs.Prelude.{all_rows, first_fields, group_shape, is_kept}
 use Rattle.answers.proofs.GroupLemmas.{as_long}
 use Rattle.answers.proofs.ReportedLemmas.{reported_all}
 use Rattle.answers.proofs.WholeLemmas.{all_joined, is_answer, is_refusal}

@@ -3,11 +3,8 @@ use Rattle.std.specs.Prelude.{None, true}
 use Rattle.std.proofs.lemmas.List.{length-map, take_all}
 use Rattle.std.proofs.lemmas.List.Elements.{All-nil}
 use Rattle.std.specs.Arc.{arc_value}
-use Rattle.arrays.specs.Batch.{Batch, rows_of}
-use Rattle.arrays.specs.Shape.{kind_of_field}
-use Rattle.query.specs.QueryShape.{query_shape}
-use Rattle.query.specs.CalledColumns.{sort_at}
-use Rattle.query.specs.FirstFault.{agg_fault, fits}
+use Rattle.arrays.specs.Prelude.{Batch, kind_of_field, rows_of}
+use Rattle.query.specs.Prelude.{agg_fault, fits, query_shape, sort_at}
 use Rattle.query.specs.declared.expr.Agg.{Agg}
 use Rattle.answers.specs.Answers.{all_rows, first_fields}
 use Rattle.tallies.specs.Kinds.{AreComparable}

@@ -3,9 +3,8 @@ use Rattle.std.proofs.lemmas.List.{take_all}
 use Rattle.std.proofs.lemmas.List.Elements.{All-more}
 use Rattle.arrays.specs.Batch.{Row, rows_of}
 use Rattle.query.specs.declared.expr.Agg.{Agg}
-use Rattle.tallies.specs.Kinds.{IsComparable}
+use Rattle.tallies.specs.Prelude.{IsComparable, item_for}
 use Rattle.evaluate.specs.Rows.{kind_at}
-use Rattle.tallies.specs.Tallies.{item_for}
 use Rattle.answers.proofs.KindLemmas.{all_turned}
 use Rattle.answers.proofs.counting.tell_comparable.Goals as goal
 

@@ -1,9 +1,8 @@
 use Rattle.std.proofs.Common.{ℕ, All, take}
 use Rattle.arrays.specs.Batch.{Row, rows_of}
 use Rattle.query.specs.declared.expr.Agg.{Agg}
-use Rattle.tallies.specs.Kinds.{IsComparable}
+use Rattle.tallies.specs.Prelude.{IsComparable, item_for}
 use Rattle.evaluate.specs.Rows.{kind_at}
-use Rattle.tallies.specs.Tallies.{item_for}
 use Rattle.answers.proofs.counting.tell_comparable.Given as goal
 
 -- What the aggregates so far look at.

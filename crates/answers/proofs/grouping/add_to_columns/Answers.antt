@@ -1,7 +1,6 @@
 use Rattle.std.proofs.Common.{◌∙◌, [], List, arith, map}
 use Rattle.arrays.specs.Batch.{Row, row_of}
-use Rattle.tallies.specs.Columns.{ColumnShape, column_of, show_column}
-use Rattle.tallies.specs.Spread.{padded, spread}
+use Rattle.tallies.specs.Prelude.{ColumnShape, column_of, padded, show_column, spread}
 use Rattle.tallies.proofs.ColumnLemmas.{mapped}
 use Rattle.answers.proofs.ListLemmas.{changed_by_place}
 use Rattle.answers.proofs.grouping.add_to_columns.Goals as goal

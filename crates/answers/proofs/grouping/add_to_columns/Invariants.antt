@@ -1,9 +1,7 @@
 use Rattle.std.proofs.Common.{◌≡◌, ℕ, ◌<◌, ◌≤◌, List, [], length, map, get_or}
 use Rattle.std.specs.Prelude.{All}
 use Rattle.arrays.specs.Batch.{Table, row_of}
-use Rattle.tallies.specs.Columns.{column_of, show_column}
-use Rattle.tallies.specs.Columns.{IsColumnOf}
-use Rattle.tallies.specs.Spread.{padded, spread}
+use Rattle.tallies.specs.Prelude.{IsColumnOf, column_of, padded, show_column, spread}
 use Rattle.tallies.specs.declared.column.TallyColumn.{TallyColumn}
 use Rattle.answers.proofs.grouping.add_to_columns.Given as goal
 

@@ -2,10 +2,7 @@ use Rattle.std.proofs.Common.{◌∙◌, ◌<◌, [], List, ap, arith, le_refl, 
 use Rattle.std.proofs.lemmas.List.{get_or_default, length-map, length-set}
 use Rattle.std.proofs.lemmas.List.Elements.{All-get_or}
 use Rattle.query.specs.declared.expr.Agg.{Agg}
-use Rattle.tallies.specs.Columns.{ColumnShape, column_of, show_column}
-use Rattle.tallies.specs.Columns.{IsColumnOf}
-use Rattle.tallies.specs.Merging.{AreAlike, spread_all}
-use Rattle.tallies.specs.Spread.{padded}
+use Rattle.tallies.specs.Prelude.{AreAlike, ColumnShape, IsColumnOf, column_of, padded, show_column, spread_all}
 use Rattle.tallies.specs.declared.column.TallyColumn.{TallyColumn}
 use Rattle.tallies.proofs.ColumnLemmas.{mapped}
 use Rattle.answers.proofs.ListLemmas.{changed_by_place, place_changed, place_kept}

@@ -1,11 +1,7 @@
 use Rattle.std.proofs.Common.{◌≡◌, ℕ, ◌<◌, ◌≤◌, List, [], length, get_or}
 use Rattle.std.specs.Prelude.{All}
-use Rattle.arrays.specs.Batch.{Table}
-use Rattle.arrays.specs.Kind.{Kind}
-use Rattle.tallies.specs.Columns.{column_of, show_column}
-use Rattle.tallies.specs.Columns.{IsColumnOf}
-use Rattle.tallies.specs.Merging.{AreAlike, spread_all}
-use Rattle.tallies.specs.Spread.{padded}
+use Rattle.arrays.specs.Prelude.{Kind, Table}
+use Rattle.tallies.specs.Prelude.{AreAlike, IsColumnOf, column_of, padded, show_column, spread_all}
 use Rattle.tallies.specs.declared.column.TallyColumn.{TallyColumn}
 use Rattle.answers.proofs.grouping.join_columns.Given as goal
 

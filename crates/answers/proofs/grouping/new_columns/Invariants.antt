@@ -1,7 +1,5 @@
 use Rattle.std.proofs.Common.{◌≡◌, [], map, take}
-use Rattle.tallies.specs.Columns.{show_column}
-use Rattle.tallies.specs.Spread.{padded}
-use Rattle.tallies.specs.Tallies.{tally_of}
+use Rattle.tallies.specs.Prelude.{padded, show_column, tally_of}
 use Rattle.answers.proofs.grouping.new_columns.Given as goal
 
 -- The columns so far.

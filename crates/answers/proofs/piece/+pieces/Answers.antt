@@ -3,8 +3,7 @@ use denote.Param.Send.{IsSync, arg_send, param_send, sendable}
 use Rattle.std.proofs.Common.{◌≡◌, ◌+◌, ◌-◌, List, arith, map, subst}
 use Rattle.std.specs.Arc.{arc_value}
 use Rattle.arrays.specs.Batch.{Batch}
-use Rattle.answers.specs.Answers.{all_rows, first_fields}
-use Rattle.answers.specs.Pieces.{AreLooked}
+use Rattle.answers.specs.Prelude.{AreLooked, all_rows, first_fields}
 use Rattle.answers.proofs.SendingLemmas.{several-send}
 use Rattle.answers.proofs.piece.+pieces.Goals as goal
 

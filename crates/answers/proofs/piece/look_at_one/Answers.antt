@@ -1,8 +1,7 @@
 use Rattle.std.proofs.Common.{◌∙◌, ◌+◌, ◌≤◌, List, ap, arith, map, subst, sym}
 use Rattle.std.specs.Arc.{arc_value}
 use Rattle.arrays.specs.Batch.{Batch}
-use Rattle.answers.specs.Answers.{all_rows, first_fields}
-use Rattle.answers.specs.Pieces.{cut_at}
+use Rattle.answers.specs.Prelude.{all_rows, cut_at, first_fields}
 use Rattle.answers.proofs.PieceLemmas.{are_looked, cuts_rise}
 use Rattle.answers.proofs.piece.look_at_one.Goals as goal
 

@@ -3,14 +3,10 @@ use Rattle.std.specs.Prelude.{min, true}
 use Rattle.std.specs.Arc.{arc_value}
 use Rattle.std.proofs.lemmas.List.{length-map}
 use Rattle.std.proofs.lemmas.List.Elements.{All-nil}
-use Rattle.arrays.specs.Batch.{Batch, Table, rows_of}
-use Rattle.arrays.specs.Shape.{kind_of_field}
-use Rattle.query.specs.QueryShape.{query_shape}
-use Rattle.query.specs.FirstFault.{fits}
+use Rattle.arrays.specs.Prelude.{Batch, Table, kind_of_field, rows_of}
+use Rattle.query.specs.Prelude.{fits, query_shape}
 use Rattle.query.specs.declared.fault.QueryFault.TheVariants.{Overflow}
-use Rattle.answers.specs.Answers.{all_rows, first_fields}
-use Rattle.answers.specs.Pieces.{HasRun, IsGood, between}
-use Rattle.answers.specs.Runs.{IsBadRow, StopsAt}
+use Rattle.answers.specs.Prelude.{HasRun, IsBadRow, IsGood, StopsAt, all_rows, between, first_fields}
 use Rattle.answers.proofs.AnsweringLemmas.{at_next, few_next, has_kept_alike, mapped_at, rows_next}
 use Rattle.answers.proofs.PieceLemmas.{none_between, piece_few, piece_place, piece_refused, piece_run, piece_whole}
 use Rattle.answers.proofs.RunLemmas.{length-rows}

@@ -1,7 +1,6 @@
 use Rattle.std.proofs.Common.{◌≡◌, length, map, take}
 use Rattle.std.specs.Arc.{arc_value}
-use Rattle.answers.specs.Answers.{all_rows, first_fields}
-use Rattle.answers.specs.Pieces.{HasRun, between}
+use Rattle.answers.specs.Prelude.{HasRun, all_rows, between, first_fields}
 use Rattle.answers.proofs.piece.look_at_rows.Given as goal
 
 -- The rows of the piece in the batches so far.

@@ -3,10 +3,8 @@ use Rattle.std.proofs.lemmas.List.Elements.{filter-append}
 use Rattle.arrays.specs.Batch.{Table}
 use Rattle.query.specs.QueryShape.{query_shape}
 use Rattle.std.proofs.lemmas.List.{append-nil}
-use Rattle.answers.specs.Groups.{is_kept}
-use Rattle.answers.specs.Grouping.{HasGroups}
+use Rattle.answers.specs.Prelude.{HasGroups, HasKept, IsBadRow, StopsAt, is_kept, rows_in}
 use Rattle.answers.proofs.CountLemmas.{all_kept}
-use Rattle.answers.specs.Runs.{HasKept, IsBadRow, StopsAt, rows_in}
 use Rattle.answers.proofs.RunLemmas.{bad_row, length-rows_in, rows_split, sound_more}
 use Rattle.answers.proofs.run.add_part.Goals as goal
 

@@ -1,8 +1,7 @@
 use Rattle.std.proofs.Common.{◌-◌, ◌≤◌, ◌++◌}
 use Rattle.arrays.specs.Batch.{Table}
 use Rattle.query.specs.QueryShape.{query_shape}
-use Rattle.answers.specs.Grouping.{IsReadyFor}
-use Rattle.answers.specs.Runs.{HasKept, rows_in}
+use Rattle.answers.specs.Prelude.{HasKept, IsReadyFor, rows_in}
 use Rattle.answers.proofs.RunLemmas.{AreSoundTo}
 use Rattle.answers.proofs.run.add_part.Given as goal
 

@@ -4,9 +4,7 @@ use Rattle.std.proofs.lemmas.List.{length-map}
 use Rattle.std.proofs.lemmas.List.Elements.{filter-append}
 use Rattle.arrays.specs.Batch.{Table, row_of}
 use Rattle.query.specs.QueryShape.{query_shape}
-use Rattle.answers.specs.Grouping.{HasGroups}
-use Rattle.answers.specs.Groups.{is_kept}
-use Rattle.answers.specs.Runs.{kept_in, rows_in}
+use Rattle.answers.specs.Prelude.{HasGroups, is_kept, kept_in, rows_in}
 use Rattle.answers.proofs.RunLemmas.{kept_are, kept_few, kept_within, length-rows_in}
 use Rattle.answers.proofs.run.add_slice.Goals as goal
 

@@ -1,8 +1,7 @@
 use Rattle.std.proofs.Common.{◌≡◌, ◌∙◌, ◌-◌, ap, arith, map, subst}
 use Rattle.std.specs.Prelude.{IfOk}
 use Rattle.std.proofs.lemmas.List.{map-append}
-use Rattle.answers.specs.Answers.{group_shape}
-use Rattle.answers.specs.Grouping.{groups_from}
+use Rattle.answers.specs.Prelude.{group_shape, groups_from}
 use Rattle.answers.proofs.ReportedLemmas.{reported_parts}
 use Rattle.answers.proofs.telling.+telling.Goals as goal
 

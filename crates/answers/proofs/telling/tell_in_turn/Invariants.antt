@@ -1,6 +1,5 @@
 use Rattle.std.proofs.Common.{◌≡◌, ◌-◌, map}
-use Rattle.answers.specs.Answers.{group_shape}
-use Rattle.answers.specs.Grouping.{groups_from}
+use Rattle.answers.specs.Prelude.{group_shape, groups_from}
 use Rattle.answers.proofs.telling.tell_in_turn.Given as goal
 
 -- The groups so far.

@@ -1,7 +1,7 @@
 use Rattle.std.proofs.Common.{arith, map, option_map, string_bytes, subst, sym}
 use Rattle.std.proofs.lemmas.List.{length-map}
 use Rattle.std.proofs.lemmas.Result.{err_from_is_err_and}
-use Rattle.arrays.specs.Shape.{field_of}
+use Rattle.arrays.specs.Prelude.{field_of}
 use Rattle.arrowtab.specs.Worked.{Holds}
 use Rattle.arrowtab.proofs.AnswerLemmas.{err_explains, loading_explains, ok_answers, some_files}
 use Rattle.arrowtab.proofs.answer.answer.Goals as goal

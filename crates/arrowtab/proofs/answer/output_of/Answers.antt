@@ -1,5 +1,5 @@
 use Rattle.std.proofs.lemmas.Result.{IfErr-weaker}
-use Rattle.table.specs.Resolved.{named}
+use Rattle.table.specs.Prelude.{named}
 use Rattle.reports.proofs.FaultLemmas.{or_memory}
 use Rattle.reports.specs.QueryFaults.{IsUnanswered}
 use Rattle.arrowtab.specs.Wanted.{IsUnprinted}

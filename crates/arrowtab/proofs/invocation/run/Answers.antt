@@ -1,9 +1,8 @@
 use Rattle.std.proofs.Common.{arith, ◌∙◌, String, List, Global, ap, length, string_bytes, subst, sym}
 use Rattle.std.proofs.lemmas.List.{length-map}
 use Rattle.job.specs.Jobs.{names_of}
-use Rattle.arrowtab.specs.Run.{front}
+use Rattle.arrowtab.specs.Prelude.{TookFault, front}
 use Rattle.ends.specs.Sink.{AppendsFront}
-use Rattle.arrowtab.specs.TookFault.{TookFault}
 use Rattle.arrowtab.proofs.RunLemmas.{excuse_reported, named}
 use Rattle.arrowtab.proofs.invocation.run.Goals as goal
 

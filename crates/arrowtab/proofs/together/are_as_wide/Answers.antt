@@ -4,8 +4,7 @@ use Rattle.std.proofs.lemmas.List.{length-map}
 use Rattle.std.proofs.lemmas.List.Elements.{All-more}
 use Rattle.std.specs.Arc.{arc_value}
 use Rattle.std.specs.Prelude.{All}
-use Rattle.arrays.specs.Batch.{Batch}
-use Rattle.arrays.specs.File.{File}
+use Rattle.arrays.specs.Prelude.{Batch, File}
 use Rattle.loads.proofs.LoadLemmas.{mapped_at}
 use Rattle.loads.specs.Loaded.{batches_of_files}
 use Rattle.arrowtab.proofs.together.are_as_wide.Goals as goal

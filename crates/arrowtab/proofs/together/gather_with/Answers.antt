@@ -1,12 +1,10 @@
 use Rattle.std.proofs.Common.{◌≡◌, ◌≢◌, ◌∙◌, ◌++◌, ℕ, List, None, Some, ap, arith, drop, inl, inr, length, refl, subst, sym, take}
 use Rattle.std.specs.Arc.{arc_value}
 use Rattle.std.specs.Prelude.{◌⊎◌}
-use Rattle.arrays.specs.File.{File}
-use Rattle.arrays.specs.Shape.{FieldShape, field_of}
+use Rattle.arrays.specs.Prelude.{FieldShape, File, field_of}
 use Rattle.loads.specs.Loaded.{batches_of_files}
 use Rattle.shared.specs.Hand.{Hand}
-use Rattle.table.specs.Stored.{stored_field}
-use Rattle.table.specs.Widened.{add_fault}
+use Rattle.table.specs.Prelude.{add_fault, stored_field}
 use Rattle.table.specs.declared.add_fault.AddFault.{AddFault}
 use Rattle.table.specs.declared.add_fault.AddFault.TheVariants as add
 use Rattle.reports.specs.declared.run_fault.ColumnFault.TheVariants.{Refused}

@@ -1,11 +1,8 @@
 use Rattle.std.proofs.Common.{◌≡◌, ◌∙◌, ◌+◌, ◌++◌, ◌%◌, IfOk, List, Option, option_map, ap, drop, get_or, inl, inr, length, refl, subst, sym, take}
 use Rattle.std.specs.Arc.{arc_value}
-use Rattle.arrays.specs.Shape.{field_of}
-use Rattle.shared.specs.Balance.{IsOfWorkers}
-use Rattle.shared.specs.Hand.{AreNew, Hand, HasAllItsPairs, columns_of_hand}
-use Rattle.shared.specs.Known.{known_of}
+use Rattle.arrays.specs.Prelude.{Field, field_of}
+use Rattle.shared.specs.Prelude.{AreNew, Hand, HasAllItsPairs, IsOfWorkers, columns_of_hand, known_of}
 use Rattle.std.specs.Prelude.{All, sum_by}
-use Rattle.arrays.specs.Field.{Field}
 use Rattle.arrowtab.specs.Worked.{Holds}
 use Rattle.arrowtab.proofs.TogetherLemmas.{loaded_there, ok_holds, stopped_all, stopped_stay, stopped_there, written_back}
 use Rattle.arrowtab.proofs.together.load_by.Goals as goal

@@ -1,10 +1,9 @@
 use Rattle.std.proofs.Common.{refl, subst}
 use Rattle.std.proofs.lemmas.Result.{err_from_is_err_and}
-use Rattle.table.specs.Resolved.{named}
-use Rattle.arrow_json.specs.QueryDocument.{ReadsQueryText}
+use Rattle.table.specs.Prelude.{named}
+use Rattle.arrow_json.specs.Prelude.{ReadsQueryText}
 use Rattle.reports.proofs.FaultLemmas.{or_memory}
-use Rattle.reports.specs.OrMemory.{OrMemory}
-use Rattle.reports.specs.QueryFaults.{IsUnreadQuery}
+use Rattle.reports.specs.Prelude.{IsUnreadQuery, OrMemory}
 use Rattle.arrowtab.proofs.AnswerLemmas.{text_unread}
 use Rattle.arrowtab.proofs.wanted.wanted_of.Goals as goal
 

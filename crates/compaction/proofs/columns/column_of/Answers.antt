@@ -1,5 +1,5 @@
 use Rattle.std.proofs.Common.{◌∙◌, List, ap, get_or, sym}
-use Rattle.arrays.specs.Seen.{Seen}
+use Rattle.arrays.specs.Prelude.{Seen}
 use Rattle.arrays.proofs.BatchLemmas.{column-is}
 use Rattle.compaction.proofs.columns.column_of.Goals as goal
 

@@ -1,8 +1,6 @@
 use Rattle.std.proofs.Common.{rules, ◌+◌, ◌-◌, ◌≤◌, All, arith, drop, length, subst, sym, take}
 use Rattle.std.specs.Arc.{arc_value}
-use Rattle.compaction.specs.Fronts.{IsBatchOf}
-use Rattle.compaction.specs.Neighbours.{IsGroup}
-use Rattle.compaction.specs.Under.{IsUnder}
+use Rattle.compaction.specs.Prelude.{IsBatchOf, IsGroup, IsUnder}
 use Rattle.compaction.proofs.CompactingLemmas.{batches_in, count-pieces, group-few, group-fits, group-under, group-within, groups-end, groups-more, rest-under, stats-more, under-more}
 use Rattle.compaction.proofs.FrontLemmas.{tables_of}
 use Rattle.compaction.proofs.JoinedLemmas.{words_of}

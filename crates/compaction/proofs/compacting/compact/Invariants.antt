@@ -1,8 +1,7 @@
 use Rattle.std.proofs.Common.{◌-◌, ◌≤◌, ◌++◌, All, List, drop, length, map}
 use Rattle.std.specs.Arc.{arc_value}
 use Rattle.arrays.specs.Batch.{Table}
-use Rattle.compaction.specs.Neighbours.{AreGroups}
-use Rattle.compaction.specs.Under.{HaveStats, IsUnder, pieces_of}
+use Rattle.compaction.specs.Prelude.{AreGroups, HaveStats, IsUnder, pieces_of}
 use Rattle.compaction.proofs.FrontLemmas.{tables_of}
 use Rattle.compaction.proofs.JoinedLemmas.{words_of}
 use Rattle.compaction.proofs.compacting.compact.Given as goal

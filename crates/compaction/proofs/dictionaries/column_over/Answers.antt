@@ -2,9 +2,8 @@ use Rattle.std.proofs.Common.{◌∙◌, Option, ap, is_some, option_map, subst,
 use Rattle.std.specs.Arc.{arc_value}
 use Rattle.std.specs.declared.alloc.Global.{Global}
 use Rattle.std.specs.declared.sync.Arc.{Arc}
-use Rattle.arrays.specs.Dictionary.{over}
+use Rattle.arrays.specs.Prelude.{Seen, over}
 use Rattle.arrays.specs.Kind as kind
-use Rattle.arrays.specs.Seen.{Seen}
 use Rattle.arrays.proofs.ChildLemmas.{same_kinds}
 use Rattle.compaction.specs.Columns.{IsOver}
 use Rattle.compaction.proofs.JoinedLemmas.{is-over}

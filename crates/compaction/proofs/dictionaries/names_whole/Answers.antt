@@ -3,7 +3,7 @@ use Rattle.std.specs.Arc.{arc_value}
 use Rattle.std.specs.List.{zip}
 use Rattle.std.proofs.lemmas.List.{length-map}
 use Rattle.std.proofs.lemmas.Slice.Zip.{length-zip}
-use Rattle.arrays.specs.Seen.{Seen}
+use Rattle.arrays.specs.Prelude.{Seen}
 use Rattle.compaction.specs.Under.{is_as_long}
 use Rattle.compaction.proofs.JoinedLemmas.{SharedWords, as-long-all, as-long-more, as-long-none, words-at, words_of}
 use Rattle.compaction.proofs.dictionaries.names_whole.Goals as goal

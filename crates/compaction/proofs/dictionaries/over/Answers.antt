@@ -2,9 +2,7 @@ use Rattle.std.proofs.Common.{◌∙◌, ◌<◌, List, ap, get_or, arith, lengt
 use Rattle.std.specs.Arc.{arc_value}
 use Rattle.std.specs.List.{AllZip, enumerate_from}
 use Rattle.std.proofs.lemmas.List.{length-map, take_all}
-use Rattle.arrays.specs.Batch.{Batch, batch_fault, rows_of}
-use Rattle.arrays.specs.Seen.{Seen}
-use Rattle.arrays.specs.Shape.{FieldShape}
+use Rattle.arrays.specs.Prelude.{Batch, FieldShape, Seen, batch_fault, rows_of}
 use Rattle.compaction.specs.Under.{NamesFront, NamesWhole}
 use Rattle.compaction.proofs.BatchLemmas.{count-of}
 use Rattle.compaction.proofs.JoinedLemmas.{IsColumn, SharedWords, batch-of, column-over, columns-all, columns-more, count-words, encoded-at, front-at, fronts-whole, lawful-over, rows-over, words-at, words_of, zipped-more}

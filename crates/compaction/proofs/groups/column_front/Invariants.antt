@@ -1,6 +1,6 @@
 use Rattle.std.proofs.Common.{◌≤◌, All, map}
 use Rattle.std.specs.Arc.{arc_value}
-use Rattle.arrays.specs.Kind.{Kind}
+use Rattle.arrays.specs.Prelude.{Kind}
 use Rattle.compaction.specs.Fronts.{IsLongest, IsOfKind}
 use Rattle.compaction.proofs.FrontLemmas.{fits_below, tables_of}
 use Rattle.compaction.proofs.groups.column_front.Given as goal

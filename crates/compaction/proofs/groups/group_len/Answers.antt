@@ -1,5 +1,5 @@
 use Rattle.std.proofs.Common.{◌<◌, arith, get_or, length, subst, sym}
-use Rattle.arrays.specs.Shape.{kind_of_field}
+use Rattle.arrays.specs.Prelude.{kind_of_field}
 use Rattle.compaction.specs.Fronts.{IsLongest}
 use Rattle.compaction.proofs.FrontLemmas.{any_field, fits_so_far, kinds-at, length-tables, so-far-all, so-far-more, so-far-none, tables_of}
 use Rattle.compaction.proofs.groups.group_len.Goals as goal

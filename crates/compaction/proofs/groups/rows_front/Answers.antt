@@ -1,11 +1,9 @@
 use Rattle.std.proofs.Common.{◌≡◌, ◌∙◌, ℕ, ◌+◌, ◌<◌, ◌⊎◌, ap, arith, inl, inr, length, min, subst, sym, take}
 use Rattle.std.proofs.lemmas.Bool.{cases_lt}
-use Rattle.arrays.specs.Batch.{Batch}
-use Rattle.compaction.specs.Fronts.{IsLongest, has_few}
-use Rattle.compaction.specs.Neighbours.{together}
+use Rattle.arrays.specs.Prelude.{Batch, most_slots}
+use Rattle.compaction.specs.Prelude.{IsLongest, has_few, together}
 use Rattle.compaction.proofs.FrontLemmas.{few-fronts, few-is, longest-stop, many-is, rows-more, tables_of}
 use Rattle.compaction.proofs.groups.rows_front.Goals as goal
-use Rattle.arrays.specs.Limits.{most_slots}
 
 past-either : (m n most : ℕ) → most ≡ min most_slots m → most < n → (m < n) ⊎ (most_slots < n)
 past-either m n most is more = elim (cases_lt m n) [ inl lt ↦ inl lt | inr le ↦ inr (omega (arith, is, more, le)) ]

@@ -3,11 +3,8 @@ use Rattle.std.specs.Arc.{arc_value}
 use Rattle.std.specs.List.{AllZip}
 use Rattle.std.proofs.lemmas.List.{length-map}
 use Rattle.std.proofs.lemmas.Slice.Zip.{AllZip-long}
-use Rattle.arrays.specs.Batch.{Batch, batch_fault}
-use Rattle.arrays.specs.Shape.{FieldShape}
-use Rattle.compaction.specs.Columns.{AreJoinable, IsColumnOf, IsJoined}
-use Rattle.compaction.specs.Neighbours.{together}
-use Rattle.compaction.specs.Under.{NamesFront}
+use Rattle.arrays.specs.Prelude.{Batch, FieldShape, batch_fault}
+use Rattle.compaction.specs.Prelude.{AreJoinable, IsColumnOf, IsJoined, NamesFront, together}
 use Rattle.compaction.proofs.FrontLemmas.{Shared, tables_of, wide-at}
 use Rattle.compaction.proofs.JoinedLemmas.{SharedWords, batch-rows, batches-of, column-made, columns-all, columns-lawful, columns-more, count-words, joinable, words-at, words_of, zipped-more}
 use Rattle.compaction.proofs.joining.joined.Goals as goal

@@ -1,8 +1,7 @@
 use Rattle.std.proofs.Common.{map, option_map, take}
 use Rattle.std.specs.Arc.{arc_value}
 use Rattle.std.specs.List.{AllZip, enumerate_from}
-use Rattle.compaction.specs.Neighbours.{together}
-use Rattle.compaction.specs.Under.{NamesFront}
+use Rattle.compaction.specs.Prelude.{NamesFront, together}
 use Rattle.compaction.proofs.FrontLemmas.{tables_of}
 use Rattle.compaction.proofs.JoinedLemmas.{IsColumn}
 use Rattle.compaction.proofs.joining.joined.Given as goal

@@ -2,8 +2,7 @@ use Rattle.std.proofs.Common.{◌≡◌, ◌∙◌, All, List, Option, ap, lengt
 use Rattle.std.specs.Arc.{arc_value}
 use Rattle.std.specs.declared.alloc.Global.{Global}
 use Rattle.std.specs.declared.sync.Arc.{Arc}
-use Rattle.arrays.specs.Dictionary.{encoded, is_code}
-use Rattle.arrays.specs.Seen.{Seen}
+use Rattle.arrays.specs.Prelude.{Seen, encoded, is_code}
 use Rattle.select.specs.Joined.{is_joined_too_big, joined, kind_of_first}
 use Rattle.compaction.specs.Columns.{AreJoinable, IsJoined}
 use Rattle.compaction.proofs.JoiningLemmas.{codes-kind, codes-named, dict-kinds, encoded-joined, fits-codes_of, kinds-codes_of}

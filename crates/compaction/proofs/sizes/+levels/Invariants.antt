@@ -1,4 +1,4 @@
-use Rattle.arrays.specs.Kind.{depth}
+use Rattle.arrays.specs.Prelude.{depth}
 use Rattle.compaction.proofs.sizes.+levels.Given as goal
 
 abbrev pub decreases-levels : goal.decreases-levels

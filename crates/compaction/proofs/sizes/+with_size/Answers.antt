@@ -1,7 +1,6 @@
 use Rattle.std.proofs.Common.{◌∙◌, ◌+◌, ap, arith}
 use Rattle.std.proofs.lemmas.List.{drop_all}
-use Rattle.arrays.specs.Item.{list, list_of, null}
-use Rattle.arrays.specs.Lengths.{is_past}
+use Rattle.arrays.specs.Prelude.{is_past, list, list_of, null}
 use Rattle.compaction.specs.Sizes.{size_at}
 use Rattle.compaction.proofs.SizeLemmas.{if-none, inner-size, null-size, past-with, size-less, size-none}
 use Rattle.compaction.proofs.sizes.+with_size.Goals as goal

@@ -1,7 +1,7 @@
 use Rattle.std.proofs.Common.{◌≡◌, ◌+◌, ◌≤◌, drop}
 use Rattle.compaction.specs.Sizes.{size_at}
 use Rattle.compaction.proofs.sizes.+with_size.Given as goal
-use Rattle.arrays.specs.Limits.{most_slots}
+use Rattle.arrays.specs.Prelude.{most_slots}
 
 abbrev pub decreases-with_size : goal.decreases-with_size
 decreases-with_size l = l.level

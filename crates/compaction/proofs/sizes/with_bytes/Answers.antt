@@ -1,7 +1,6 @@
 use Rattle.std.proofs.Common.{◌∙◌, ◌+◌, ap, arith, length, zero-add}
-use Rattle.arrays.specs.Item.{null, text}
+use Rattle.arrays.specs.Prelude.{is_past, null, text}
 use Rattle.arrays.specs.Kind as kind
-use Rattle.arrays.specs.Lengths.{is_past}
 use Rattle.compaction.proofs.SizeLemmas.{if-none, past-with, size-less}
 use Rattle.compaction.proofs.sizes.with_bytes.Goals as goal
 use Rattle.compaction.proofs.sizes.with_bytes.Goals.{in-Some+in_ok-bytes, in_default}

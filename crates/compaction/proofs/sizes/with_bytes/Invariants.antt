@@ -1,7 +1,6 @@
 use Rattle.std.proofs.Common.{◌≡◌, ◌+◌, ◌≤◌, drop}
-use Rattle.arrays.specs.Lengths.{text_bytes}
+use Rattle.arrays.specs.Prelude.{most_slots, text_bytes}
 use Rattle.compaction.proofs.sizes.with_bytes.Given as goal
-use Rattle.arrays.specs.Limits.{most_slots}
 
 abbrev pub invariant-loop-i : goal.invariant-loop-i
 invariant-loop-i l = record {

@@ -1,8 +1,6 @@
 use Rattle.std.proofs.Common.{◌∙◌, ◌+◌, ap, arith, sym}
-use Rattle.arrays.specs.Item.{list, list_of, null}
-use Rattle.arrays.specs.OffsetWidths.{Narrow}
+use Rattle.arrays.specs.Prelude.{Narrow, is_past, list, list_of, null}
 use Rattle.arrays.specs.Kind as kind
-use Rattle.arrays.specs.Lengths.{is_past}
 use Rattle.compaction.proofs.SizeLemmas.{if-none, list-size, past-with, size-less}
 use Rattle.compaction.proofs.sizes.with_items.Goals as goal
 use Rattle.compaction.proofs.sizes.with_items.Goals.{in-Some+in_ok-items, in_default}

@@ -1,7 +1,6 @@
 use Rattle.std.proofs.Common.{◌≡◌, ◌+◌, ◌≤◌, drop, length}
-use Rattle.arrays.specs.Lengths.{inner_items}
+use Rattle.arrays.specs.Prelude.{inner_items, most_slots}
 use Rattle.compaction.proofs.sizes.with_items.Given as goal
-use Rattle.arrays.specs.Limits.{most_slots}
 
 abbrev pub invariant-loop-i : goal.invariant-loop-i
 invariant-loop-i l = record {

@@ -2,8 +2,7 @@ use Rattle.std.proofs.Common.{arith, subst, sym}
 use Rattle.std.specs.declared.alloc.Global.{Global}
 use Rattle.std.specs.declared.vec.Vec.{Vec}
 use Rattle.group.specs.declared.stats.ColumnStats.{ColumnStats}
-use Rattle.compaction.specs.Neighbours.{together}
-use Rattle.compaction.specs.Statistics.{AreStatsOf}
+use Rattle.compaction.specs.Prelude.{AreStatsOf, together}
 use Rattle.compaction.proofs.StatisticsLemmas.{AreOfFirst, first-all, first-one}
 use Rattle.compaction.proofs.statistics.stats_of.Goals as goal
 

@@ -1,11 +1,8 @@
 use Rattle.std.proofs.Common.{◌∙◌, ap, map, string_bytes}
-use Rattle.table.specs.Answers.{group_shape}
+use Rattle.table.specs.Prelude.{group_shape, named, query_shape}
 use Rattle.embed.specs.Answer.{of_batch}
-use Rattle.table.specs.QueryShape.{query_shape}
-use Rattle.table.specs.Resolved.{named}
 use Rattle.reports.specs.GroupLines.{column_names}
-use Rattle.results.specs.Result.{result_batch}
-use Rattle.results.specs.Types.{result_types}
+use Rattle.results.specs.Prelude.{result_batch, result_types}
 use Rattle.embed.proofs.answering.named_table.Goals as goal
 
 pub returns-clause-ok : goal.returns-clause-ok

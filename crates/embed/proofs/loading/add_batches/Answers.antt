@@ -1,8 +1,7 @@
 use Rattle.std.proofs.Common.{◌≡◌, ◌∙◌, List, None, ap, map, subst}
 use Rattle.std.specs.Arc.{arc_value}
-use Rattle.arrays.specs.Shape.{FieldShape}
-use Rattle.table.specs.Cause.{IsLegal, difference}
-use Rattle.table.specs.Contents.{Contents}
+use Rattle.arrays.specs.Prelude.{FieldShape}
+use Rattle.table.specs.Prelude.{Contents, IsLegal, difference}
 use Rattle.reports.specs.FileBatches.{batch_of}
 use Rattle.embed.proofs.LoadLemmas.{admitted_alike, batch_at, cause_stands, front-more, front-stops}
 use Rattle.embed.proofs.loading.add_batches.Goals as goal

@@ -1,13 +1,10 @@
 use Rattle.std.proofs.Common.{◌∙◌, ◌+◌, ◌++◌, List, map, subst, sym, take}
 use Rattle.std.proofs.lemmas.Result.{err_from_is_err_and}
-use Rattle.arrays.specs.Batch.{Batch}
-use Rattle.arrays.specs.Shape.{FieldShape}
-use Rattle.embed.specs.Loaded.{AddsAll, all_batches}
-use Rattle.embed.specs.Refused.{StopsIn}
+use Rattle.arrays.specs.Prelude.{Batch, FieldShape}
+use Rattle.embed.specs.Prelude.{AddsAll, StopsIn, all_batches}
 use Rattle.reports.proofs.FileLemmas.{data_of}
 use Rattle.reports.proofs.FaultLemmas.{or_memory}
-use Rattle.reports.specs.FileBatches.{batch_of}
-use Rattle.reports.specs.OrMemory.{OrMemory}
+use Rattle.reports.specs.Prelude.{OrMemory, batch_of}
 use Rattle.embed.proofs.LoadLemmas.{file_at, files-more, files-stop}
 use Rattle.embed.proofs.loading.load_files.Goals as goal
 

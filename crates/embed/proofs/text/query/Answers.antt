@@ -1,10 +1,9 @@
 use Rattle.std.proofs.Common.{Bor, List, inl, inr, map, ℕ}
 use Rattle.std.proofs.lemmas.Result.{IfErr-weaker, err_from_is_err_and}
-use Rattle.table.specs.Resolved.{named}
+use Rattle.table.specs.Prelude.{named}
 use Rattle.reports.proofs.FaultLemmas.{or_memory}
 use Rattle.reports.specs.QueryFaults.{IsUnanswered}
-use Rattle.embed.specs.Output.{StopsQuery}
-use Rattle.embed.specs.Refused.{StopsTexts}
+use Rattle.embed.specs.Prelude.{StopsQuery, StopsTexts}
 use Rattle.embed.proofs.text.query.Goals as goal
 
 pub returns-in_err-open-clause-err : goal.returns-in_err-open-clause-err

@@ -1,5 +1,5 @@
 use Rattle.std.proofs.Common.{◌≡◌, ◌∙◌, ap, get_or, subst, sym}
-use Rattle.arrays.specs.Seen.{Seen}
+use Rattle.arrays.specs.Prelude.{Seen}
 use Rattle.evaluate.specs.Rows.{HasColumn}
 use Rattle.evaluate.proofs.RowLemmas.{is_column, kind_there}
 use Rattle.evaluate.proofs.column.column_at.Goals as goal

@@ -1,5 +1,5 @@
 use Rattle.std.proofs.Common.{◌≡◌, replicate}
-use Rattle.arrays.specs.Item.{int}
+use Rattle.arrays.specs.Prelude.{int}
 use Rattle.evaluate.proofs.constant.repeated_number.Given as goal
 
 abbrev pub invariant-loop-row : goal.invariant-loop-row

@@ -1,5 +1,5 @@
 use Rattle.std.proofs.Common.{◌≡◌, replicate}
-use Rattle.arrays.specs.Item.{boolean}
+use Rattle.arrays.specs.Prelude.{boolean}
 use Rattle.evaluate.proofs.constant.repeated_truth.Given as goal
 
 abbrev pub invariant-loop-row : goal.invariant-loop-row

@@ -1,12 +1,7 @@
 use Rattle.std.proofs.Common.{◌≡◌, ◌≢◌, ◌∙◌, ap, sym, subst, length, map, is_ok, true, arith}
-use Rattle.query.specs.Checked.{checked}
-use Rattle.query.specs.CalledColumns.{sort_at}
-use Rattle.query.specs.Sorts.{sort_of_one, sort_of_two}
-use Rattle.query.specs.Tree.{op, tree_of, trees}
+use Rattle.query.specs.Prelude.{checked, op, sort_at, sort_of_one, sort_of_two, tree_of, trees}
 use Rattle.query.proofs.TreeLemmas.{tree_of-Op}
-use Rattle.evaluate.specs.Making.{AreMade, StopsAt, StopsMaking}
-use Rattle.evaluate.specs.Slices.{AreValues, item_in, sort_in}
-use Rattle.evaluate.specs.Value.{of_one, of_two}
+use Rattle.evaluate.specs.Prelude.{AreMade, AreValues, StopsAt, StopsMaking, item_in, of_one, of_two, sort_in}
 use Rattle.evaluate.proofs.TreeLemmas.{made_one, made_so, made_two, no_sort, outer_one, outer_two, passed_on, stopped_so, stops_left, stops_right, stops_two, tree_one, tree_two}
 use Rattle.evaluate.proofs.evaluation.+evaluate.Goals as goal
 

@@ -1,5 +1,5 @@
 use Rattle.std.proofs.Common.{◌≡◌, ◌∙◌, ◌+◌, ◌≤◌, ap, get_or, length, refl, subst, sym}
-use Rattle.arrays.specs.Seen.{Seen}
+use Rattle.arrays.specs.Prelude.{Seen}
 use Rattle.evaluate.proofs.ColumnLemmas.{is_column, place_within, slots_within}
 use Rattle.evaluate.proofs.evaluation.column.Goals as goal
 

@@ -1,7 +1,6 @@
 use Rattle.std.proofs.Common.{◌≡◌, ◌<◌, None}
 use Rattle.query.specs.Tree.{tree_of}
-use Rattle.evaluate.specs.Slices.{row_in}
-use Rattle.evaluate.specs.Value.{value}
+use Rattle.evaluate.specs.Prelude.{row_in, value}
 use Rattle.evaluate.proofs.filter.least_bad.Given as goal
 
 -- the row is bad, and each turn finds one before it

@@ -3,8 +3,7 @@ use Rattle.std.specs.Int.{w128}
 use Rattle.std.proofs.lemmas.Int.{to_z-of_z}
 use Rattle.arrays.specs.Shown.{shown}
 use Rattle.arrays.specs.Kind as kind
-use Rattle.kernels.specs.Beside.{has_number, number_beside}
-use Rattle.kernels.specs.Order.{compared}
+use Rattle.kernels.specs.Prelude.{compared, has_number, number_beside}
 use Rattle.evaluate.specs.Making.{is_of_operands, stop_of}
 use Rattle.evaluate.proofs.BesideLemmas.{number_compared, number_stops}
 use Rattle.evaluate.proofs.OperatorLemmas.{given_rows, given_stop, given_values}

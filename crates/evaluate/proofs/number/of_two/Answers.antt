@@ -1,12 +1,10 @@
 use Rattle.std.proofs.Common.{◌≡◌, IfOk, Some, length, subst, sym}
 use Rattle.std.specs.Int.{w128}
 use Rattle.std.proofs.lemmas.Int.{to_z-of_z}
-use Rattle.arrays.specs.Item.{int}
-use Rattle.arrays.specs.Slot.{item_at}
+use Rattle.arrays.specs.Prelude.{int, item_at}
 use Rattle.query.specs.Sorts.{sort_of_kind, sort_of_two}
 use Rattle.query.specs.declared.sort.Sort.TheVariants.{Literal, Truth}
-use Rattle.evaluate.specs.Making.{AreMade, StopsMaking, in_order}
-use Rattle.evaluate.specs.Value.{of_two}
+use Rattle.evaluate.specs.Prelude.{AreMade, StopsMaking, in_order, of_two}
 use Rattle.evaluate.specs.declared.stop.Stop.TheVariants as stops
 use Rattle.evaluate.proofs.BesideLemmas.{compared_sort, compares, stopped_on}
 use Rattle.evaluate.proofs.number.of_two.Goals as goal

@@ -1,11 +1,8 @@
 use Rattle.std.proofs.Common.{◌∙◌, IfErr, IfOk, ap, is_some, length, subst, sym}
-use Rattle.arrays.specs.Seen.{Seen}
-use Rattle.arrays.specs.Slot.{item_at}
+use Rattle.arrays.specs.Prelude.{Seen, item_at}
 use Rattle.query.specs.Sorts as sorts
 use Rattle.query.specs.Sorts.{sort_of_kind, sort_of_two}
-use Rattle.evaluate.specs.Making.{AreMade, StopsMaking}
-use Rattle.evaluate.specs.Slices.{column_of, item_in, sort_in}
-use Rattle.evaluate.specs.Value.{of_two}
+use Rattle.evaluate.specs.Prelude.{AreMade, StopsMaking, column_of, item_in, of_two, sort_in}
 use Rattle.evaluate.proofs.OperatorLemmas.{columns_sort}
 use Rattle.evaluate.proofs.operators.behind_column.Goals as goal
 

@@ -2,14 +2,10 @@ use Rattle.std.proofs.Common.{◌≡◌, ◌∙◌, IfErr, IfOk, false, length, 
 use Rattle.std.specs.Int.{w128}
 use Rattle.std.proofs.lemmas.Int.{to_z-of_z}
 use Rattle.arrays.specs.Kind as kind
-use Rattle.arrays.specs.Item.{int}
-use Rattle.arrays.specs.Shown.{shown}
-use Rattle.arrays.specs.Slot.{item_at}
+use Rattle.arrays.specs.Prelude.{int, int64, item_at, shown}
 use Rattle.query.specs.Sorts.{sort_of_kind, sort_of_two}
-use Rattle.arrays.specs.Kind.{int64}
 use Rattle.query.specs.declared.sort.Sort.TheVariants.{Literal}
-use Rattle.evaluate.specs.Making.{AreMade, StopsMaking, in_order}
-use Rattle.evaluate.specs.Value.{of_two}
+use Rattle.evaluate.specs.Prelude.{AreMade, StopsMaking, in_order, of_two}
 use Rattle.evaluate.proofs.BesideLemmas.{made_on, numbers_made, numbers_stop, stopped_on}
 use Rattle.evaluate.proofs.operators.of_numbers.Goals as goal
 

@@ -1,7 +1,6 @@
 use Rattle.std.proofs.Common.{◌∙◌, sym, ap, replicate}
 use Rattle.arrays.specs.Kind as kind
-use Rattle.arrays.specs.Item.{boolean}
-use Rattle.arrays.specs.Shown.{shown}
+use Rattle.arrays.specs.Prelude.{boolean, shown}
 use Rattle.kernels.specs.Order.{meets}
 use Rattle.evaluate.proofs.OperatorLemmas.{texts_made}
 use Rattle.evaluate.proofs.text.compare_texts.Goals as goal

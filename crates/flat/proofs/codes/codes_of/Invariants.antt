@@ -1,7 +1,6 @@
 use Rattle.std.proofs.Common.{◌≡◌}
 use Rattle.std.specs.List.{flat_map, range_with_len}
-use Rattle.arrays.specs.Kind.{int32}
-use Rattle.arrays.specs.Number.{bytes_of_number, number_at}
+use Rattle.arrays.specs.Prelude.{bytes_of_number, int32, number_at}
 use Rattle.flat.specs.Parts.{code}
 use Rattle.flat.proofs.codes.codes_of.Given as goal
 

@@ -1,7 +1,7 @@
 use Rattle.std.proofs.Common.{◌∙◌, inl, inr, refl, sym}
 use Rattle.std.proofs.lemmas.List.{length-map}
 use Rattle.std.proofs.lemmas.Result.{err_from_is_err_and}
-use Rattle.arrays.specs.Shape.{field_of, fields_of}
+use Rattle.arrays.specs.Prelude.{field_of, fields_of}
 use Rattle.flat.proofs.RowLemmas.{stops_columns, takes_step}
 use Rattle.flat.proofs.columns.all_columns.Goals as goal
 

@@ -1,5 +1,5 @@
 use Rattle.std.proofs.Common.{◌-◌, ◌≤◌, drop, length}
-use Rattle.arrays.specs.Shape.{fields_of}
+use Rattle.arrays.specs.Prelude.{fields_of}
 use Rattle.flat.specs.Batch.{Takes}
 use Rattle.flat.proofs.columns.all_columns.Given as goal
 

@@ -1,5 +1,5 @@
 use Rattle.std.proofs.Common.{inl, inr}
-use Rattle.arrays.specs.Reading.{reading}
+use Rattle.arrays.specs.Prelude.{reading}
 use Rattle.flat.proofs.ColumnLemmas.{shown, stopped}
 use Rattle.flat.proofs.columns.array_of.Goals as goal
 

@@ -1,6 +1,6 @@
 use Rattle.std.proofs.Common.{inl, inr}
 use Rattle.std.proofs.lemmas.Result.{err_from_is_err_and}
-use Rattle.arrays.specs.Shape.{field_of}
+use Rattle.arrays.specs.Prelude.{field_of}
 use Rattle.flat.proofs.RowLemmas.{stops_array}
 use Rattle.flat.proofs.columns.first_column.Goals as goal
 

@@ -1,7 +1,6 @@
 use Rattle.std.proofs.Common.{◌≡◌, ◌∙◌, Some, ap}
-use Rattle.arrays.specs.Field.{Field}
+use Rattle.arrays.specs.Prelude.{Field, Shape, field_of, shape_of}
 use Rattle.arrays.specs.Shape as shape
-use Rattle.arrays.specs.Shape.{Shape, field_of, shape_of}
 use Rattle.flat.specs.Fields.{field_named}
 use Rattle.flat.proofs.FieldLemmas.{begins_coded, begins_listed, shape_of-Dict}
 use Rattle.flat.proofs.fields.+first_field.Goals as goal

@@ -1,11 +1,8 @@
 use Rattle.std.proofs.Common.{Some, ◌∙◌, ap, arith, option_map, subst, sym}
 use Rattle.std.proofs.lemmas.Result.{on_ok_weaker}
 use Rattle.std.specs.Arc.{arc_value}
-use Rattle.arrays.specs.Lent.{read_lent}
+use Rattle.arrays.specs.Prelude.{Dict, Field, field_of, kind_of_field, read_lent}
 use Rattle.arrays.specs.Kind as kind
-use Rattle.arrays.specs.Shape.{field_of, kind_of_field}
-use Rattle.arrays.specs.DataTypes.{Dict}
-use Rattle.arrays.specs.Field.{Field}
 use Rattle.flat.proofs.LentLemmas.{IsListed, alone_of, child_of, child_read, kind_by, kind_of-Dict, list_falls, listed_of, pushed_alone, pushed_coded, pushed_listed, some_child, some_words}
 use Rattle.flat.proofs.lent.+push_column.Goals as goal
 

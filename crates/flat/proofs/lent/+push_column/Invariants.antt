@@ -1,5 +1,4 @@
-use Rattle.arrays.specs.Kind.{depth}
-use Rattle.arrays.specs.Shape.{field_of, kind_of_field}
+use Rattle.arrays.specs.Prelude.{depth, field_of, kind_of_field}
 use Rattle.flat.proofs.lent.+push_column.Given as goal
 
 abbrev pub decreases-push_column : goal.decreases-push_column

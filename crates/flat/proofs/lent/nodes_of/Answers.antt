@@ -1,7 +1,5 @@
 use Rattle.std.proofs.Common.{None, ◌≡◌, ◌∙◌, subst}
-use Rattle.arrays.specs.Lent.{read_lent}
-use Rattle.arrays.specs.Kind.{Kind}
-use Rattle.arrays.specs.Shape.{field_of, fields_of}
+use Rattle.arrays.specs.Prelude.{Kind, field_of, fields_of, read_lent}
 use Rattle.flat.proofs.LentLemmas.{at_column, lends_batch, lends_more}
 use Rattle.flat.proofs.lent.nodes_of.Goals as goal
 

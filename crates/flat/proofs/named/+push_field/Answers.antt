@@ -1,9 +1,7 @@
 use Rattle.std.proofs.Common.{[], arith, subst, sym}
 use Rattle.std.proofs.lemmas.Result.{on_ok_weaker}
 use Rattle.arrays.specs.Kind as kind
-use Rattle.arrays.specs.Shape.{field_of}
-use Rattle.arrays.specs.DataTypes.{Dict}
-use Rattle.arrays.specs.Field.{Field}
+use Rattle.arrays.specs.Prelude.{Dict, Field, field_of}
 use Rattle.flat.proofs.LentLemmas.{IsListed, alone_of, kind_by, kind_of-Dict, list_falls, listed_of}
 use Rattle.flat.proofs.NamedLemmas.{named_alone, named_coded, named_listed}
 use Rattle.flat.proofs.named.+push_field.Goals as goal

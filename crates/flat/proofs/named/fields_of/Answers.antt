@@ -1,7 +1,6 @@
 use Rattle.std.proofs.Common.{None, ◌≡◌, ◌∙◌, List, ap, option_map, slice_get, Some, subst, sym}
 use Rattle.std.proofs.lemmas.Option.{slice_get-get_or, slice_get-map}
-use Rattle.arrays.specs.Schema.{schema_fault}
-use Rattle.arrays.specs.Shape.{FieldShape, field_of, fields_of}
+use Rattle.arrays.specs.Prelude.{FieldShape, field_of, fields_of, schema_fault}
 use Rattle.flat.proofs.NamedLemmas.{names_one, names_schema}
 use Rattle.flat.proofs.named.fields_of.Goals as goal
 

@@ -1,5 +1,5 @@
 use Rattle.std.proofs.Common.{take}
-use Rattle.arrays.specs.Shape.{fields_of}
+use Rattle.arrays.specs.Prelude.{fields_of}
 use Rattle.flat.proofs.NamedLemmas.{NamesSoFar}
 use Rattle.flat.proofs.named.fields_of.Given as goal
 

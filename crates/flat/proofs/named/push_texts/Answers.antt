@@ -1,5 +1,5 @@
 use Rattle.std.proofs.Common.{true, [], subst}
-use Rattle.arrays.specs.Kind.{Kind}
+use Rattle.arrays.specs.Prelude.{Kind}
 use Rattle.arrays.proofs.ShapeLemmas.{kind_of-Utf8}
 use Rattle.flat.specs.Lent.{IsNodeOver}
 use Rattle.flat.proofs.named.push_texts.Goals as goal

@@ -1,6 +1,6 @@
 use Rattle.std.proofs.Common.{◌∙◌, ap, sym}
 use Rattle.std.proofs.lemmas.Result.{IfOk-weaker}
-use Rattle.arrays.specs.Shape.{kind_of_shape}
+use Rattle.arrays.specs.Prelude.{kind_of_shape}
 use Rattle.arrays.proofs.ShapeLemmas.{kind_of_shape-shape_of}
 use Rattle.flat.proofs.parts.copy_of.Goals as goal
 

@@ -1,7 +1,7 @@
 use Rattle.std.proofs.Common.{◌∙◌, ap, inl, inr, refl, sym}
 use Rattle.std.proofs.lemmas.List.{length-map, map-append}
 use Rattle.std.proofs.lemmas.Result.{err_from_is_err_and}
-use Rattle.arrays.specs.Shape.{field_of, fields_of}
+use Rattle.arrays.specs.Prelude.{field_of, fields_of}
 use Rattle.flat.proofs.RowLemmas.{names_step, stops_fields}
 use Rattle.flat.proofs.schema.all_fields.Goals as goal
 

@@ -1,5 +1,5 @@
 use Rattle.std.proofs.Common.{◌-◌, ◌≤◌, drop, length}
-use Rattle.arrays.specs.Shape.{fields_of}
+use Rattle.arrays.specs.Prelude.{fields_of}
 use Rattle.flat.specs.Schema.{Names}
 use Rattle.flat.proofs.schema.all_fields.Given as goal
 

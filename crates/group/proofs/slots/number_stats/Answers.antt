@@ -1,12 +1,9 @@
 use Rattle.std.proofs.Common.{◌≡◌, ◌∙◌, ℕ, ◌+◌, ◌<◌, ◌+ℤ◌, [], ◌∷◌, ◌++◌, length, Some, rules, take, option_map, FitsSigned, to_z, of_z, ap, sym, refl, subst, arith}
 use Rattle.std.specs.Int.{w128}
 use Rattle.std.proofs.lemmas.Int.{ints, to_z-of_z}
-use Rattle.arrays.specs.Item.{int, null}
+use Rattle.arrays.specs.Prelude.{int, null, number_at, valid_at, valid_in}
 use Rattle.arrays.specs.Kind as kind
-use Rattle.arrays.specs.Number.{number_at}
-use Rattle.arrays.specs.Seen.{valid_at, valid_in}
-use Rattle.group.specs.Stats.{lesser, greater}
-use Rattle.group.specs.Tally.{chosen}
+use Rattle.group.specs.Prelude.{chosen, greater, lesser}
 use Rattle.group.specs.declared.number.Number.{Number}
 use Rattle.group.specs.declared.tally.Tally.{Tally}
 use Rattle.group.proofs.SumLemmas.{IsSum, IsSum-null, IsSum-number}

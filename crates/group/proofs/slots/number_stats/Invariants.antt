@@ -1,5 +1,5 @@
 use Rattle.std.proofs.Common.{take, option_map}
-use Rattle.arrays.specs.Item.{int}
+use Rattle.arrays.specs.Prelude.{int}
 use Rattle.arrays.specs.Kind as kind
 use Rattle.group.specs.Tally.{IsTally}
 use Rattle.group.specs.declared.number.Number.{Number}

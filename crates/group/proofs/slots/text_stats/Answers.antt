@@ -1,7 +1,6 @@
 use Rattle.std.proofs.Common.{◌∙◌, ℕ, ◌+◌, List, Some, take, option_map, Option, Bor, ap, arith}
 use Rattle.std.specs.Option.{option_copied}
-use Rattle.arrays.specs.Item.{text, null}
-use Rattle.arrays.specs.Slot.{item_of_text}
+use Rattle.arrays.specs.Prelude.{item_of_text, null, text}
 use Rattle.group.proofs.TallyLemmas.{walk-value, walk-null, take-item, text_is}
 use Rattle.group.proofs.slots.text_stats.Goals as goal
 use Rattle.group.proofs.slots.text_stats.Goals.{in-Some, in-None}

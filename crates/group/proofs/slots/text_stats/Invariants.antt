@@ -1,5 +1,5 @@
 use Rattle.std.proofs.Common.{◌≤◌, take, option_map}
-use Rattle.arrays.specs.Item.{text}
+use Rattle.arrays.specs.Prelude.{text}
 use Rattle.group.specs.Tally.{IsTally}
 use Rattle.group.proofs.slots.text_stats.Given as goal
 

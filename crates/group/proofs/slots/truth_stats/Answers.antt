@@ -1,8 +1,7 @@
 use Rattle.std.proofs.Common.{◌≡◌, ◌∙◌, ℕ, ◌+◌, ◌<◌, Bool, [], ◌∷◌, ◌++◌, length, false, take, option_map, ap, sym, refl, arith, slice_index_or}
-use Rattle.arrays.specs.Item.{boolean}
+use Rattle.arrays.specs.Prelude.{boolean, valid_at, valid_in}
 use Rattle.std.proofs.lemmas.Option.{get_or_from_slice_get}
 use Rattle.arrays.specs.Kind as kind
-use Rattle.arrays.specs.Seen.{valid_at, valid_in}
 use Rattle.group.specs.declared.tally.Tally.{Tally}
 use Rattle.group.proofs.TallyLemmas.{walk-value, walk-null, take-value, take-null}
 use Rattle.group.proofs.slots.truth_stats.Goals as goal

@@ -1,5 +1,5 @@
 use Rattle.std.proofs.Common.{take, option_map}
-use Rattle.arrays.specs.Item.{boolean}
+use Rattle.arrays.specs.Prelude.{boolean}
 use Rattle.arrays.specs.Kind as kind
 use Rattle.group.specs.Tally.{IsTally}
 use Rattle.group.proofs.slots.truth_stats.Given as goal

@@ -1,7 +1,5 @@
 use Rattle.std.proofs.Common.{List, map, option_map}
-use Rattle.json_read.specs.Data.{Data, no_items}
-use Rattle.json_read.specs.CatalogParts.{AreCodings, coding_of}
-use Rattle.json_read.specs.EncodingParts.{parts_of}
+use Rattle.json_read.specs.Prelude.{AreCodings, Data, coding_of, no_items, parts_of}
 use Rattle.json_scan.specs.Spelling.{before}
 use Rattle.json_file.specs.Dictionary.{AreEntries, ids_in}
 use Rattle.json_file.proofs.catalog.codings_by.Given as goal

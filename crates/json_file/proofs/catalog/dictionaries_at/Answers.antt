@@ -1,5 +1,5 @@
 use Rattle.std.proofs.Common.{Some, refl, sym, subst}
-use Rattle.json_read.specs.Data.{array, no_items}
+use Rattle.json_read.specs.Prelude.{array, no_items}
 use Rattle.json_scan.specs.Spelling.{before}
 use Rattle.json_scan.proofs.Values.{if_ok_then}
 use Rattle.json_file.specs.Dictionary.{AreEntries}

@@ -1,7 +1,6 @@
 use Rattle.std.proofs.Common.{◌≡◌, false, drop, Some, refl, sym, subst, rules}
-use Rattle.json_scan.specs.Lex.{lex, between, begins_colon}
-use Rattle.json_read.specs.Data.{array, no_items}
-use Rattle.json_scan.specs.Spelling.{SpellsAt, before}
+use Rattle.json_scan.specs.Prelude.{SpellsAt, before, begins_colon, between, lex}
+use Rattle.json_read.specs.Prelude.{array, no_items}
 use Rattle.json_stream.specs.Column.{StandsOn}
 use Rattle.json_file.proofs.catalog.entries_at.Goals as goal
 

@@ -2,7 +2,7 @@ use Rattle.std.proofs.Common.{◌∙◌, Some, sym, ap, to_z, of_z, rules}
 use Rattle.std.specs.Int.{w128}
 use Rattle.std.specs.Prelude.{FitsSigned}
 use Rattle.std.proofs.lemmas.Int.{to_z-of_z}
-use Rattle.json_read.specs.Data.{object}
+use Rattle.json_read.specs.Prelude.{object}
 use Rattle.json_file.proofs.DictionaryLemmas.{entry_held}
 use Rattle.json_file.proofs.dictionary.read_entry.Goals as goal
 

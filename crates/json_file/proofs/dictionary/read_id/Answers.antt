@@ -1,7 +1,6 @@
 use Rattle.std.proofs.Common.{◌≡◌, ◌∙◌, true, Some, None, cond, option_and_then, ap, rules}
-use Rattle.arrays.specs.Kind.{int64}
-use Rattle.arrays.specs.Number.{is_of_type}
-use Rattle.json_read.specs.JsonNumber.{fitting}
+use Rattle.arrays.specs.Prelude.{int64, is_of_type}
+use Rattle.json_read.specs.Prelude.{fitting}
 use Rattle.json_file.proofs.dictionary.read_id.Goals as goal
 
 pub returns-then-holds-clause-reads : goal.returns-then-holds-clause-reads

@@ -1,6 +1,5 @@
 use Rattle.std.proofs.Common.{◌≡◌, subst, rules}
-use Rattle.json_read.specs.Find.{get_member}
-use Rattle.json_read.specs.JsonPath.{member_name}
+use Rattle.json_read.specs.Prelude.{get_member, member_name}
 use Rattle.json_read.specs.Members as member
 use Rattle.json_scan.proofs.Values.{if_ok_then}
 use Rattle.json_file.specs.Document.{IsFileAt, StandsAt}

@@ -1,4 +1,4 @@
-use Rattle.json_read.specs.Data.{array, no_items}
+use Rattle.json_read.specs.Prelude.{array, no_items}
 use Rattle.json_scan.specs.Spelling.{before}
 use Rattle.json_file.proofs.DocumentLemmas.{file_held}
 use Rattle.json_file.proofs.document.read_by.Goals as goal

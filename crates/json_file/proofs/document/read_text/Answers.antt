@@ -1,7 +1,7 @@
 use Rattle.std.proofs.Common.{◌≡◌, ◌∙◌, ◌≤◌, [], length, drop, refl, sym, ap, arith}
 use Rattle.std.proofs.lemmas.List.{drop_all}
-use Rattle.json_scan.specs.Lex.{lex, between}
-use Rattle.json_read.specs.Data.{object}
+use Rattle.json_scan.specs.Prelude.{between, lex}
+use Rattle.json_read.specs.Prelude.{object}
 use Rattle.json_scan.proofs.Numbers.{no_lexemes}
 use Rattle.json_scan.proofs.Values.{whole_document, if_ok_then}
 use Rattle.json_file.proofs.document.read_text.Goals as goal

@@ -1,4 +1,4 @@
-use Rattle.json_read.specs.Data.{object}
+use Rattle.json_read.specs.Prelude.{object}
 use Rattle.json_file.proofs.TextLemmas.{texts_read}
 use Rattle.json_file.proofs.texts.read_batch_of_texts.Goals as goal
 

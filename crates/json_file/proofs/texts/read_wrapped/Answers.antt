@@ -1,5 +1,5 @@
 use Rattle.std.proofs.Common.{refl}
-use Rattle.json_read.specs.Data.{array, no_items}
+use Rattle.json_read.specs.Prelude.{array, no_items}
 use Rattle.json_scan.specs.Spelling.{before}
 use Rattle.json_file.proofs.TextLemmas.{batch_alone}
 use Rattle.json_file.proofs.texts.read_wrapped.Goals as goal

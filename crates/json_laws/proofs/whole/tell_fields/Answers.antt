@@ -1,7 +1,6 @@
 use Rattle.std.proofs.Common.{◌≡◌, None, List, subst, sym}
 use Rattle.std.specs.List.{AllByRecursion}
-use Rattle.arrays.specs.Schema.{schema_fault}
-use Rattle.arrays.specs.Shape.{FieldShape}
+use Rattle.arrays.specs.Prelude.{FieldShape, schema_fault}
 use Rattle.json_laws.specs.IsFile.{IsField}
 use Rattle.json_laws.proofs.WholeFields.{fields_lawful}
 use Rattle.json_laws.proofs.whole.tell_fields.Goals as goal

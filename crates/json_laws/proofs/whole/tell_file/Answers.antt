@@ -1,9 +1,7 @@
 use Rattle.std.proofs.Common.{◌^◌, ◌<◌, List, length, subst, sym}
 use Rattle.std.specs.Arc.{arc_value}
 use Rattle.std.specs.List.{AllByRecursion}
-use Rattle.arrays.specs.Batch.{Batch}
-use Rattle.arrays.specs.File.{AreBatchesOf}
-use Rattle.arrays.specs.Shape.{FieldShape}
+use Rattle.arrays.specs.Prelude.{AreBatchesOf, Batch, FieldShape}
 use Rattle.json_base.specs.JsonTable.{tables_of}
 use Rattle.json_laws.specs.IsFile.{IsField, IsTable}
 use Rattle.json_laws.proofs.WholeTables.{tables_present}

@@ -1,5 +1,5 @@
 use Rattle.std.proofs.Common.{◌∙◌, List, map, ap}
-use Rattle.arrays.specs.Seen.{Seen}
+use Rattle.arrays.specs.Prelude.{Seen}
 use Rattle.json_print.proofs.Batches.{lawful_kinds}
 use Rattle.json_print.proofs.batch.write_batch.Goals as goal
 

@@ -1,9 +1,8 @@
 use Rattle.std.proofs.Common.{◌≡◌, ◌++◌, drop}
-use Rattle.arrays.specs.Shape.{fields_of}
+use Rattle.arrays.specs.Prelude.{fields_of}
 use Rattle.json.specs.Tree.{items_tokens}
-use Rattle.json_base.specs.Written.{items_outline}
+use Rattle.json_base.specs.Prelude.{items_of, items_outline}
 use Rattle.json_print.specs.BatchData.{columns_data}
-use Rattle.json_base.specs.JsonTable.{items_of}
 use Rattle.json_print.proofs.batch.write_columns.Given as goal
 
 -- with the columns that are left all is written

@@ -1,7 +1,7 @@
 use Rattle.std.proofs.Common.{◌≡◌, Some, ap, sym, subst, rules}
 use Rattle.std.specs.List.{All}
 use Rattle.arrays.specs.Kind as kind
-use Rattle.arrays.specs.Kind.{item_kind, kind_of}
+use Rattle.arrays.specs.Prelude.{item_kind, kind_of}
 use Rattle.json_print.specs.Slots.{AreOf}
 use Rattle.json_print.proofs.column.+columns.Goals as goal
 

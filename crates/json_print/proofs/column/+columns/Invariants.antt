@@ -1,5 +1,5 @@
 use Rattle.std.proofs.Common.{◌+◌, ◌*◌}
-use Rattle.arrays.specs.Field.{size-Field}
+use Rattle.arrays.specs.Prelude.{size-Field}
 use Rattle.json_print.proofs.column.+columns.Given as goal
 
 -- each of the three is passed the item's field, and calls the next one

@@ -1,8 +1,6 @@
 use Rattle.std.proofs.Common.{◌≡◌, ◌∙◌, List, map, ap}
 use Rattle.std.proofs.lemmas.Result.{IfOk-equal}
-use Rattle.arrays.specs.File.{kinds_of}
-use Rattle.arrays.specs.Seen.{Seen}
-use Rattle.arrays.specs.Slot.{is_text}
+use Rattle.arrays.specs.Prelude.{Seen, is_text, kinds_of}
 use Rattle.json_print.specs.Dictionaries.{with_items}
 use Rattle.json_print.proofs.Batches.{column_at-read, encoded_kind, encoded_within, lawful_kinds}
 use Rattle.json_print.proofs.dictionaries.add_batch.Goals as goal

@@ -1,8 +1,7 @@
 use Rattle.std.proofs.Common.{◌∙◌, ◌+◌, ◌∷◌, [], List, map, sym, ap, ap₂, add-one, arith}
 use Rattle.std.specs.Arc.{arc_value}
-use Rattle.arrays.specs.Shape.{fields_of}
+use Rattle.arrays.specs.Prelude.{Field, fields_of}
 use Rattle.arrays.proofs.ShapeLemmas.{kind_of_field-field_of}
-use Rattle.arrays.specs.Field.{Field}
 use Rattle.json_base.specs.JsonTable.{tables_of}
 use Rattle.json_print.specs.Dictionaries.{column_items, dictionaries_from, dictionary_of}
 use Rattle.json_print.proofs.Batches.{encoded_all}

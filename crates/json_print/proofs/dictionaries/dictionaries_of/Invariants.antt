@@ -1,6 +1,6 @@
 use Rattle.std.proofs.Common.{◌≡◌, ◌++◌, drop, map}
 use Rattle.std.specs.Arc.{arc_value}
-use Rattle.arrays.specs.Shape.{fields_of}
+use Rattle.arrays.specs.Prelude.{fields_of}
 use Rattle.json_base.specs.JsonTable.{tables_of}
 use Rattle.json_print.specs.Dictionaries.{dictionaries_from}
 use Rattle.json_print.proofs.dictionaries.dictionaries_of.Given as goal

@@ -1,7 +1,7 @@
 use Rattle.std.proofs.Common.{◌≡◌, ◌++◌, drop}
-use Rattle.arrays.specs.Shape.{fields_of}
+use Rattle.arrays.specs.Prelude.{fields_of}
 use Rattle.json.specs.Tree.{items_tokens}
-use Rattle.json_base.specs.Written.{items_outline}
+use Rattle.json_base.specs.Prelude.{items_outline}
 use Rattle.json_print.specs.DictionaryData.{entries_data}
 use Rattle.json_print.proofs.entry.write_entries.Given as goal
 

@@ -1,11 +1,8 @@
 use Rattle.std.proofs.Common.{◌≡◌, ◌++◌, drop, map}
 use Rattle.std.specs.String.{string_bytes}
 use Rattle.json.specs.Tree.{items_tokens}
-use Rattle.json_base.specs.Data.{array}
-use Rattle.json_base.specs.Written.{items_outline}
-use Rattle.json_print.specs.ColumnData.{each, valid_data}
-use Rattle.json_print.specs.DictionaryData.{text_items}
-use Rattle.json_print.specs.Written.{tokens_of}
+use Rattle.json_base.specs.Prelude.{array, items_outline}
+use Rattle.json_print.specs.Prelude.{each, text_items, tokens_of, valid_data}
 use Rattle.json_print.proofs.entry.write_flags.Given as goal
 
 -- with the texts that are left all is written

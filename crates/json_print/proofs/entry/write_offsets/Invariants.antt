@@ -1,11 +1,9 @@
 use Rattle.std.proofs.Common.{◌≡◌, ◌++◌, drop, map}
 use Rattle.std.specs.String.{string_bytes}
-use Rattle.arrays.specs.OffsetWidths.{Narrow}
+use Rattle.arrays.specs.Prelude.{Narrow}
 use Rattle.json.specs.Tree.{items_tokens}
-use Rattle.json_base.specs.Written.{items_outline}
-use Rattle.json_print.specs.ColumnData.{offsets, offsets_data}
-use Rattle.json_print.specs.DictionaryData.{text_items}
-use Rattle.json_print.specs.Written.{tokens_of}
+use Rattle.json_base.specs.Prelude.{items_outline}
+use Rattle.json_print.specs.Prelude.{offsets, offsets_data, text_items, tokens_of}
 use Rattle.json_print.proofs.entry.write_offsets.Given as goal
 
 -- with the texts that are left all is written

@@ -1,8 +1,6 @@
 use Rattle.std.proofs.Common.{◌∙◌, ap, arith}
 use Rattle.std.specs.Arc.{arc_value}
-use Rattle.arrays.specs.Batch.{Batch}
-use Rattle.arrays.specs.File.{kinds_of}
-use Rattle.arrays.specs.Shape.{fields_of}
+use Rattle.arrays.specs.Prelude.{Batch, fields_of, kinds_of}
 use Rattle.json_print.proofs.Batches.{types_at}
 use Rattle.json_print.proofs.file.write_batches.Goals as goal
 

@@ -1,10 +1,9 @@
 use Rattle.std.proofs.Common.{◌≡◌, ◌++◌, drop, map}
 use Rattle.std.specs.Arc.{arc_value}
-use Rattle.arrays.specs.Shape.{fields_of}
+use Rattle.arrays.specs.Prelude.{fields_of}
 use Rattle.json.specs.Tree.{items_tokens}
-use Rattle.json_base.specs.Written.{items_outline}
+use Rattle.json_base.specs.Prelude.{items_outline, tables_of}
 use Rattle.json_print.specs.BatchData.{batches_data}
-use Rattle.json_base.specs.JsonTable.{tables_of}
 use Rattle.json_print.proofs.file.write_batches.Given as goal
 
 -- with the batches that are left all is written

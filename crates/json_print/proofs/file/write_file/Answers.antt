@@ -1,8 +1,7 @@
 use Rattle.std.proofs.Common.{◌≡◌, ◌∙◌, List, length, map, sym, ap, subst}
 use Rattle.std.proofs.lemmas.List.{length-map}
 use Rattle.std.specs.Arc.{arc_value}
-use Rattle.arrays.specs.File.{AreBatchesOf}
-use Rattle.arrays.specs.Shape.{FieldShape, field_of, fields_of}
+use Rattle.arrays.specs.Prelude.{AreBatchesOf, FieldShape, field_of, fields_of}
 use Rattle.json_base.specs.JsonTable.{tables_of}
 use Rattle.json_print.specs.declared.text_set.TextSet.{TextSet}
 use Rattle.json_print.proofs.Texts.{length-dictionaries_from}

@@ -1,7 +1,6 @@
 use Rattle.std.proofs.Common.{◌≡◌, ◌∙◌, true, false, OnOk, sym, ap, subst, append_assoc}
 use Rattle.std.proofs.lemmas.Result.{IfOk-equal}
-use Rattle.json_print.specs.Text.{has_dictionary, last_members}
-use Rattle.json_print.specs.Written.{AddsMembers}
+use Rattle.json_print.specs.Prelude.{AddsMembers, has_dictionary, last_members}
 use Rattle.json_print.proofs.Batches.{has_dictionary-fields}
 use Rattle.json_print.proofs.file.write_last_members.Goals as goal
 

@@ -1,8 +1,6 @@
 use Rattle.std.proofs.Common.{◌≡◌, List, Some, arith}
 use Rattle.std.proofs.lemmas.List.Concat.{flat_map-append}
-use Rattle.arrays.specs.Kind.{item_kind}
-use Rattle.arrays.specs.Lengths.{inner_items, items_in, joined_items}
-use Rattle.arrays.specs.Seen.{Seen}
+use Rattle.arrays.specs.Prelude.{Seen, inner_items, item_kind, items_in, joined_items}
 use Rattle.json_print.proofs.Steps.{All-read, step}
 use Rattle.json_print.proofs.lists.lists_of.Goals as goal
 

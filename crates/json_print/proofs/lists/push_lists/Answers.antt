@@ -1,7 +1,6 @@
 use Rattle.std.proofs.Common.{refl, arith, get_or}
 use Rattle.std.proofs.Math.Seq.{drop-cons}
-use Rattle.arrays.specs.Item.{null}
-use Rattle.arrays.specs.Lengths.{inner_items, joined_items}
+use Rattle.arrays.specs.Prelude.{inner_items, joined_items, null}
 use Rattle.json_print.proofs.Steps.{moved}
 use Rattle.json_print.proofs.lists.push_lists.Goals as goal
 

@@ -1,6 +1,5 @@
 use Rattle.std.proofs.Common.{◌≡◌, ◌++◌, Some, drop}
-use Rattle.arrays.specs.Kind.{Kind, item_kind}
-use Rattle.arrays.specs.Lengths.{inner_items, joined_items}
+use Rattle.arrays.specs.Prelude.{Kind, inner_items, item_kind, joined_items}
 use Rattle.json_print.specs.Slots.{AreOf}
 use Rattle.json_print.proofs.lists.push_lists.Given as goal
 

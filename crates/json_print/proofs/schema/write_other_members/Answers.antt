@@ -1,9 +1,8 @@
 use Rattle.std.proofs.Common.{◌≡◌, ◌∙◌, ℕ, List, ◌++◌, Bool, codes, ap, sym, append_assoc}
 use Rattle.std.proofs.lemmas.Result.{IfOk-equal}
-use Rattle.arrays.specs.Shape.{Shape, dict, shape_of}
+use Rattle.arrays.specs.Prelude.{Shape, dict, shape_of}
 use Rattle.json.specs.Tree.{members_tokens}
-use Rattle.json_base.specs.Data.{member}
-use Rattle.json_base.specs.Written.{members_outline}
+use Rattle.json_base.specs.Prelude.{member, members_outline}
 use Rattle.json_print.specs.SchemaData.{dictionary_data, named_members, other_members}
 use Rattle.json_print.proofs.Shapes.{shape_of-Dict}
 use Rattle.json_print.proofs.schema.write_other_members.Goals as goal

@@ -1,7 +1,6 @@
 use Rattle.std.proofs.Common.{◌∙◌, OnOk, sym, ap, subst}
-use Rattle.arrays.specs.Shape.{Shape, shape_of}
-use Rattle.json_print.specs.SchemaData.{type_data}
-use Rattle.json_print.specs.Written.{Adds}
+use Rattle.arrays.specs.Prelude.{Shape, shape_of}
+use Rattle.json_print.specs.Prelude.{Adds, type_data}
 use Rattle.json_print.proofs.Shapes.{shape_of-LargeUtf8, shape_of-LargeList}
 use Rattle.json_print.proofs.schema.write_type.Goals as goal
 

@@ -1,9 +1,8 @@
 use Rattle.std.proofs.Common.{◌≡◌, ◌+◌, sum_by, arith}
-use Rattle.arrays.specs.Seen.{Seen}
+use Rattle.arrays.specs.Prelude.{Seen, joined_items}
 use Rattle.json.specs.Tree.{items_tokens}
-use Rattle.json_base.specs.Written.{items_outline}
+use Rattle.json_base.specs.Prelude.{items_outline}
 use Rattle.json_print.specs.ColumnData.{item_length, offsets_data}
-use Rattle.arrays.specs.Lengths.{joined_items}
 use Rattle.json_print.proofs.Steps.{offsets_append, step}
 use Rattle.json_print.proofs.slots.write_ends.Goals as goal
 

@@ -1,6 +1,6 @@
 use Rattle.std.proofs.Common.{◌≡◌, ◌++◌, drop}
 use Rattle.json.specs.Tree.{items_tokens}
-use Rattle.json_base.specs.Written.{items_outline}
+use Rattle.json_base.specs.Prelude.{items_outline}
 use Rattle.json_print.specs.ColumnData.{offsets_data}
 use Rattle.arrays.specs.Lengths.{joined_items}
 use Rattle.json_print.proofs.slots.write_ends.Given as goal

@@ -1,10 +1,8 @@
 use Rattle.std.proofs.Common.{List, arith}
-use Rattle.arrays.specs.Seen.{Seen}
+use Rattle.arrays.specs.Prelude.{Seen, joined_items}
 use Rattle.json.specs.Tree.{items_tokens}
-use Rattle.json_base.specs.Written.{items_outline}
-use Rattle.json_print.specs.ColumnData.{each}
-use Rattle.json_print.specs.Slots.{IsPartOf, part_data}
-use Rattle.arrays.specs.Lengths.{joined_items}
+use Rattle.json_base.specs.Prelude.{items_outline}
+use Rattle.json_print.specs.Prelude.{IsPartOf, each, part_data}
 use Rattle.json_print.proofs.Steps.{All-read, each_append, step}
 use Rattle.json_print.proofs.slots.write_items.Goals as goal
 

@@ -1,8 +1,7 @@
 use Rattle.std.proofs.Common.{◌≡◌, ◌++◌, drop}
 use Rattle.json.specs.Tree.{items_tokens}
-use Rattle.json_base.specs.Written.{items_outline}
-use Rattle.json_print.specs.ColumnData.{each}
-use Rattle.json_print.specs.Slots.{part_data}
+use Rattle.json_base.specs.Prelude.{items_outline}
+use Rattle.json_print.specs.Prelude.{each, part_data}
 use Rattle.arrays.specs.Lengths.{joined_items}
 use Rattle.json_print.proofs.slots.write_items.Given as goal
 

@@ -1,7 +1,6 @@
 use Rattle.std.proofs.Common.{◌≡◌, ◌++◌, drop}
 use Rattle.std.specs.List.{flat_map}
-use Rattle.json_print.specs.Slots.{part_data}
-use Rattle.json_print.specs.Written.{tokens_of}
+use Rattle.json_print.specs.Prelude.{part_data, tokens_of}
 use Rattle.json_print.proofs.slots.write_slots.Given as goal
 
 -- with the slots that are left all is written

@@ -1,6 +1,5 @@
 use Rattle.std.proofs.Common.{◌≡◌, ◌+◌, ◌++◌, drop, sum_by}
-use Rattle.json_print.specs.ColumnData.{item_length}
-use Rattle.json_print.specs.Slots.{starts_tokens}
+use Rattle.json_print.specs.Prelude.{item_length, starts_tokens}
 use Rattle.json_print.proofs.slots.write_starts.Given as goal
 
 -- with the slots that are left all is written

@@ -1,6 +1,6 @@
 use Rattle.std.proofs.Common.{Ok, codes}
 use Rattle.query.specs.declared.expr.Agg.TheVariants.{Count, Sum, Least, Greatest}
-use Rattle.json_base.specs.View.{view}
+use Rattle.json_base.specs.Prelude.{view}
 use Rattle.json_base.specs.declared.path.Member.TheVariants as member
 use Rattle.json_base.proofs.JsonResults.{error_kept}
 use Rattle.json_query.specs.Reading.{required, string_of}

@@ -1,5 +1,5 @@
 use Rattle.std.proofs.Common.{◌∙◌, Some, ap, sym, arith}
-use Rattle.json_base.specs.View.{view, items_view}
+use Rattle.json_base.specs.Prelude.{items_view, view}
 use Rattle.json_base.specs.declared.path.Member.TheVariants as member
 use Rattle.json_base.proofs.JsonItems.{get_item_at}
 use Rattle.json_base.proofs.JsonResults.{error_kept}

@@ -1,7 +1,5 @@
 use Rattle.std.proofs.Common.{◌≡◌, ◌+◌, ◌*◌, map, Ok}
-use Rattle.json_base.specs.Data.{depth, items_depth}
-use Rattle.json_base.specs.View.{view, items_view}
-use Rattle.json_base.specs.JsonMember.{ReadsFirst}
+use Rattle.json_base.specs.Prelude.{ReadsFirst, depth, items_depth, items_view, view}
 use Rattle.json_query.specs.QueryExpr.{expr, named_tree}
 use Rattle.json_query.proofs.expr.+exprs.Given as goal
 

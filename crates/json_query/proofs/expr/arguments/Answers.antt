@@ -1,4 +1,4 @@
-use Rattle.json_base.specs.View.{view}
+use Rattle.json_base.specs.Prelude.{view}
 use Rattle.json_base.proofs.JsonResults.{error_kept}
 use Rattle.json_query.proofs.QueryReadings.{arguments_ok, arguments_told, arguments_unlisted}
 use Rattle.json_query.proofs.expr.arguments.Goals as goal

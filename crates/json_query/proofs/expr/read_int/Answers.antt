@@ -1,5 +1,5 @@
 use Rattle.std.proofs.Common.{◌∙◌, sym}
-use Rattle.json_base.specs.View.{view}
+use Rattle.json_base.specs.Prelude.{view}
 use Rattle.json_base.specs.declared.path.Member.TheVariants as member
 use Rattle.json_base.specs.declared.fault.JsonFaultKind.TheVariants.{BadNumber}
 use Rattle.json_base.proofs.JsonResults.{error_kept}

@@ -1,7 +1,6 @@
 use Rattle.std.proofs.Common.{◌≡◌, map, Ok, string_bytes}
 use Rattle.query.specs.Resolved.{renamed_agg}
-use Rattle.json_base.specs.View.{items_view}
-use Rattle.json_base.specs.JsonMember.{ReadsFirst}
+use Rattle.json_base.specs.Prelude.{ReadsFirst, items_view}
 use Rattle.json_query.specs.QueryDocument.{agg}
 use Rattle.json_query.proofs.lists.read_all.Given as goal
 

@@ -1,6 +1,5 @@
 use Rattle.std.proofs.Common.{◌≡◌, map, Ok, string_bytes}
-use Rattle.json_base.specs.View.{items_view}
-use Rattle.json_base.specs.JsonMember.{ReadsFirst}
+use Rattle.json_base.specs.Prelude.{ReadsFirst, items_view}
 use Rattle.json_query.specs.Reading.{string_of}
 use Rattle.json_query.proofs.lists.read_names.Given as goal
 

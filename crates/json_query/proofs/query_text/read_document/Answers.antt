@@ -1,5 +1,5 @@
 use Rattle.std.proofs.Common.{inl, inr}
-use Rattle.json_base.specs.View.{view}
+use Rattle.json_base.specs.Prelude.{view}
 use Rattle.json_base.proofs.JsonResults.{error_kept}
 use Rattle.json_query.proofs.Readings.{object_unlike, object_ok, both_ok, both_left}
 use Rattle.json_query.specs.QueryDocument.{aggs, by, shape}

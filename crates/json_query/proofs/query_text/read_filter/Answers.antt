@@ -1,7 +1,5 @@
 use Rattle.std.proofs.Common.{◌≡◌, Some, None, rules}
-use Rattle.json_base.specs.Find.{as_null}
-use Rattle.json_base.specs.View.{view}
-use Rattle.json_base.specs.JsonMember.{member_of}
+use Rattle.json_base.specs.Prelude.{as_null, member_of, view}
 use Rattle.json_base.specs.declared.path.Member.TheVariants as member
 use Rattle.json_query.proofs.QueryReadings.{filter_told}
 use Rattle.json_query.proofs.query_text.read_filter.Goals as goal

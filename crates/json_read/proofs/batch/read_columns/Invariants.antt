@@ -1,8 +1,7 @@
 use Rattle.std.proofs.Common.{map, option_map}
-use Rattle.json_read.specs.CatalogParts.{coding_of}
-use Rattle.json_base.specs.View.{items_view}
-use Rattle.arrays.specs.Shape.{fields_of}
-use Rattle.json_read.specs.JsonBatch.{HoldsColumns}
+use Rattle.json_read.specs.Prelude.{HoldsColumns, coding_of}
+use Rattle.json_base.specs.Prelude.{items_view}
+use Rattle.arrays.specs.Prelude.{fields_of}
 use Rattle.json_read.proofs.batch.read_columns.Given as goal
 
 -- the columns so far are read

@@ -3,8 +3,7 @@ use Rattle.std.specs.Int.{w128}
 use Rattle.std.specs.Prelude.{FitsSigned}
 use Rattle.std.proofs.lemmas.Int.{to_z-of_z}
 use Rattle.std.specs.Result.{MatchResult, IsErrAnd}
-use Rattle.json_read.specs.JsonCatalog.{HasId}
-use Rattle.json_read.specs.JsonCatalogFault.{NoId}
+use Rattle.json_read.specs.Prelude.{HasId, NoId}
 use Rattle.json_base.specs.FaultAt.{IsUnder}
 use Rattle.json_base.specs.declared.path.Step.TheVariants as step
 use Rattle.json_base.proofs.JsonTells.{tells_item_at}

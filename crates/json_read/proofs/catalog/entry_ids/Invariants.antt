@@ -1,6 +1,5 @@
-use Rattle.json_base.specs.View.{items_view}
+use Rattle.json_base.specs.Prelude.{ReadsFirst, items_view}
 use Rattle.json_read.specs.JsonCatalog.{HasId}
-use Rattle.json_base.specs.JsonMember.{ReadsFirst}
 use Rattle.json_read.proofs.catalog.entry_ids.Given as goal
 
 -- the numbers so far are read

@@ -1,7 +1,6 @@
 use Rattle.std.proofs.Common.{◌≡◌, ℕ, ◌<◌, map, Some, option_map}
 use Rattle.std.specs.List.{slice_get}
-use Rattle.json_read.specs.EncodingParts.{parts_of}
-use Rattle.json_read.specs.JsonEncoding.{Encoding}
+use Rattle.json_read.specs.Prelude.{Encoding, parts_of}
 use Rattle.json_read.proofs.catalog.has_some.Given as goal
 
 -- none so far

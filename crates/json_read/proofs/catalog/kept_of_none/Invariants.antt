@@ -1,6 +1,5 @@
-use Rattle.json_base.specs.View.{items_view}
+use Rattle.json_base.specs.Prelude.{ReadsFirst, items_view}
 use Rattle.json_read.specs.CatalogParts.{AreWordsOf}
-use Rattle.json_base.specs.JsonMember.{ReadsFirst}
 use Rattle.json_read.proofs.catalog.kept_of_none.Given as goal
 
 -- nothing of those so far

@@ -1,9 +1,8 @@
 use Rattle.std.proofs.Common.{sym, map, option_map}
 use Rattle.std.proofs.lemmas.List.{length-map}
 use Rattle.std.proofs.lemmas.Result.{IfErr-weaker, IfOk-weaker}
-use Rattle.json_base.specs.View.{view, items_view}
-use Rattle.json_read.specs.CatalogParts.{coding_of, ids_of}
-use Rattle.json_read.specs.EncodingParts.{parts_of}
+use Rattle.json_base.specs.Prelude.{items_view, view}
+use Rattle.json_read.specs.Prelude.{coding_of, ids_of, parts_of}
 use Rattle.json_read.proofs.JsonCatalogs.{catalog_codings, catalog_read}
 use Rattle.json_read.proofs.catalog.read_catalog.Goals as goal
 

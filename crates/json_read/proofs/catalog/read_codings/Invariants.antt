@@ -1,8 +1,6 @@
 use Rattle.std.proofs.Common.{map, option_map}
-use Rattle.json_base.specs.View.{items_view}
-use Rattle.json_read.specs.CatalogParts.{AreCodings, AreWordsOf, coding_of, ids_of}
-use Rattle.json_read.specs.EncodingParts.{parts_of}
-use Rattle.json_base.specs.JsonMember.{ReadsEach}
+use Rattle.json_base.specs.Prelude.{ReadsEach, items_view}
+use Rattle.json_read.specs.Prelude.{AreCodings, AreWordsOf, coding_of, ids_of, parts_of}
 use Rattle.json_read.proofs.catalog.read_codings.Given as goal
 
 -- those so far are read

@@ -3,9 +3,8 @@ use Rattle.std.specs.Int.{w128}
 use Rattle.std.specs.Prelude.{FitsSigned}
 use Rattle.std.proofs.lemmas.Int.{to_z-of_z}
 use Rattle.json_base.proofs.Views.{items_len-items_view}
-use Rattle.json_base.specs.View.{items_view}
-use Rattle.json_read.specs.CatalogParts.{ids_of}
-use Rattle.json_read.specs.PlaceParts.{place_at}
+use Rattle.json_base.specs.Prelude.{items_view}
+use Rattle.json_read.specs.Prelude.{ids_of, place_at}
 use Rattle.json_read.specs.declared.place.Place.TheVariants.{Nowhere, At, Again}
 use Rattle.json_base.proofs.JsonItems.{get_item_at}
 use Rattle.json_read.proofs.JsonCatalogs.{entry_within, entry_object, kept_at, kept_set, placed_at, tells_again, tells_entry, tells_nowhere}

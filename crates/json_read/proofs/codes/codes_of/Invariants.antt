@@ -1,5 +1,4 @@
-use Rattle.json_read.specs.CodeParts.{HoldsCodes}
-use Rattle.json_read.specs.SlotParts.{flags_in, values_in}
+use Rattle.json_read.specs.Prelude.{HoldsCodes, flags_in, values_in}
 use Rattle.json_read.proofs.codes.codes_of.Given as goal
 
 -- the codes so far are read

@@ -1,7 +1,6 @@
 use Rattle.std.proofs.Common.{◌≡◌, Some, None, false, arith}
 use Rattle.json_base.proofs.Views.{items_len-items_view}
-use Rattle.json_read.specs.JsonColumn.{flagged_at}
-use Rattle.json_read.specs.SlotParts.{flags_in, values_in}
+use Rattle.json_read.specs.Prelude.{flagged_at, flags_in, values_in}
 use Rattle.json_read.proofs.JsonCodes.{null_added, tells_no_index_flag}
 use Rattle.json_base.proofs.JsonItems.{get_item_some}
 use Rattle.json_read.proofs.codes.push_code.Goals as goal

@@ -2,8 +2,7 @@ use Rattle.std.proofs.Common.{◌≡◌, ◌∙◌, ◌++◌, ◌∷◌, [], tru
 use Rattle.std.specs.Int.{w128}
 use Rattle.std.specs.Prelude.{FitsSigned}
 use Rattle.std.proofs.lemmas.Int.{to_z-of_z}
-use Rattle.arrays.specs.Dictionary.{is_code}
-use Rattle.arrays.specs.Item.{int}
+use Rattle.arrays.specs.Prelude.{int, is_code}
 use Rattle.json_read.specs.SlotParts.{flags_in, values_in}
 use Rattle.json_read.proofs.JsonCodes.{index_added, tells_no_index, tells_past}
 use Rattle.json_base.proofs.JsonItems.{get_item_at}

@@ -1,9 +1,7 @@
 use Rattle.std.proofs.Common.{◌≡◌, ◌∙◌, length, map, ap, subst}
 use Rattle.std.specs.Arc.{arc_value}
-use Rattle.arrays.specs.Dictionary.{looked_up}
-use Rattle.arrays.specs.Seen.{Seen}
-use Rattle.json_read.specs.CodeParts.{HoldsCodes}
-use Rattle.json_read.specs.SlotParts.{flags_in, values_in}
+use Rattle.arrays.specs.Prelude.{Seen, looked_up}
+use Rattle.json_read.specs.Prelude.{HoldsCodes, flags_in, values_in}
 use Rattle.json_read.proofs.JsonCodes.{codes_read}
 use Rattle.json_read.proofs.codes.read_codes.Goals as goal
 

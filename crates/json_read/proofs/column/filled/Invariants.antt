@@ -1,6 +1,5 @@
 use Rattle.std.proofs.Common.{◌≡◌, false}
-use Rattle.json_read.specs.JsonColumn.{spelling_of, overflows, ReadsSlots}
-use Rattle.json_read.specs.SlotParts.{flags_in, values_in}
+use Rattle.json_read.specs.Prelude.{ReadsSlots, flags_in, overflows, spelling_of, values_in}
 use Rattle.json_read.proofs.column.filled.Given as goal
 
 -- the slots so far are read

@@ -1,7 +1,6 @@
 use Rattle.std.proofs.Common.{◌≡◌, Some, None, true, false, arith}
 use Rattle.json_base.proofs.Views.{items_len-items_view}
-use Rattle.json_read.specs.JsonColumn.{spelling_of, flagged_at}
-use Rattle.json_read.specs.SlotParts.{flags_in, values_in}
+use Rattle.json_read.specs.Prelude.{flagged_at, flags_in, spelling_of, values_in}
 use Rattle.json_base.proofs.JsonItems.{get_item_at, get_item_some}
 use Rattle.json_read.proofs.JsonSlots.{value_pushed, null_pushed, tells_unfit, tells_no_flag}
 use Rattle.json_read.proofs.column.push_slot.Goals as goal

@@ -1,11 +1,7 @@
 use Rattle.std.proofs.Common.{map, option_map}
 use Rattle.std.specs.Arc.{arc_value}
-use Rattle.json_read.specs.CatalogParts.{coding_of}
-use Rattle.json_base.specs.View.{items_view}
-use Rattle.json_base.specs.JsonMember.{ReadsFirst}
-use Rattle.json_read.specs.JsonFile.{AreUnder}
-use Rattle.json_read.specs.JsonBatch.{ReadsBatch}
-use Rattle.json_base.specs.JsonTable.{table_of}
+use Rattle.json_read.specs.Prelude.{AreUnder, ReadsBatch, coding_of}
+use Rattle.json_base.specs.Prelude.{ReadsFirst, items_view, table_of}
 use Rattle.json_read.proofs.file.read_batches.Given as goal
 
 -- the batches so far are read

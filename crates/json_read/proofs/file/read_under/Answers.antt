@@ -1,5 +1,5 @@
 use Rattle.std.specs.Arc.{arc_value}
-use Rattle.json_base.specs.View.{view}
+use Rattle.json_base.specs.Prelude.{view}
 use Rattle.json_read.proofs.JsonFiles.{catalog_of, kinds_under}
 use Rattle.json_base.proofs.JsonResults.{value_kept}
 use Rattle.json_read.proofs.file.read_under.Goals as goal

@@ -1,6 +1,5 @@
 use Rattle.std.proofs.Common.{◌≡◌, ◌∙◌, ap, sym}
-use Rattle.arrays.specs.FromParts.{list_parts}
-use Rattle.arrays.specs.Kind.{kind_of}
+use Rattle.arrays.specs.Prelude.{kind_of, list_parts}
 use Rattle.arrays.proofs.NullLemmas.{same_item}
 use Rattle.json_read.proofs.JsonLists.{lists_fault-is, tells_tried}
 use Rattle.json_read.proofs.list.list_array.Goals as goal

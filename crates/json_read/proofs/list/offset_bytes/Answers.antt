@@ -2,11 +2,9 @@ use Rattle.std.proofs.Common.{◌≡◌, ◌∙◌, None, Some, [], ◌∷◌, �
 use Rattle.std.specs.Int.{w128}
 use Rattle.std.specs.Prelude.{FitsSigned}
 use Rattle.std.proofs.lemmas.Int.{to_z-of_z}
-use Rattle.arrays.specs.OffsetSize.{offset_type}
-use Rattle.arrays.specs.Number.{bytes_of_number}
-use Rattle.json_base.specs.View.{view}
+use Rattle.arrays.specs.Prelude.{bytes_of_number, offset_type}
+use Rattle.json_base.specs.Prelude.{integer_of, view}
 use Rattle.json_read.specs.JsonList.{SpellsOffset}
-use Rattle.json_base.specs.JsonNumber.{integer_of}
 use Rattle.json_base.proofs.JsonItems.{each_pushed, each_done}
 use Rattle.json_read.proofs.JsonLists.{offset_bytes-push, tells_no_offset}
 use Rattle.json_read.proofs.list.offset_bytes.Goals as goal

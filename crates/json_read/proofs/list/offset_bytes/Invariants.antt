@@ -1,7 +1,6 @@
 use Rattle.std.proofs.Common.{◌≡◌, ℤ, List}
-use Rattle.json_base.specs.View.{items_view}
+use Rattle.json_base.specs.Prelude.{ReadsFirst, items_view}
 use Rattle.json_read.specs.JsonList.{SpellsOffset, offset_bytes}
-use Rattle.json_base.specs.JsonMember.{ReadsFirst}
 use Rattle.json_read.proofs.list.offset_bytes.Given as goal
 
 -- the offsets so far are read

@@ -1,5 +1,4 @@
-use Rattle.json_base.specs.View.{items_view}
-use Rattle.json_base.specs.JsonMember.{ReadsFirst}
+use Rattle.json_base.specs.Prelude.{ReadsFirst, items_view}
 use Rattle.json_read.specs.ListBuffers.{IsFlag}
 use Rattle.json_read.proofs.list.read_flags.Given as goal
 

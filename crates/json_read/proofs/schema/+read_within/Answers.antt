@@ -1,5 +1,5 @@
 use Rattle.std.proofs.Common.{rules, arith}
-use Rattle.json_base.specs.View.{view}
+use Rattle.json_base.specs.Prelude.{view}
 use Rattle.json_read.specs.JsonSchema.{NamesLists}
 use Rattle.json_read.proofs.JsonFaults.{field_child, names_lists}
 use Rattle.json_read.proofs.schema.+read_within.Goals as goal

@@ -3,10 +3,7 @@ use Rattle.std.proofs.lemmas.List.{map-append}
 use Rattle.std.specs.Result.{MatchResult, IsErrAnd}
 use Rattle.json_base.specs.FaultAt.{IsUnder}
 use Rattle.json_base.specs.declared.path.Step.TheVariants as step
-use Rattle.json_read.specs.EncodingParts.{parts_of}
-use Rattle.json_read.specs.JsonEncoding.{HasEncoding}
-use Rattle.json_read.specs.JsonFields.{ReadsField}
-use Rattle.json_read.specs.JsonFieldsFault.{TopFault}
+use Rattle.json_read.specs.Prelude.{HasEncoding, ReadsField, TopFault, parts_of}
 use Rattle.json_base.proofs.JsonTells.{tells_item_at}
 use Rattle.json_base.proofs.JsonItems.{each_pushed, each_done}
 use Rattle.json_read.proofs.JsonFields.{fields_of-push}

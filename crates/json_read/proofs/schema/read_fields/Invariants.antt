@@ -1,10 +1,7 @@
 use Rattle.std.proofs.Common.{map, option_map}
-use Rattle.json_base.specs.View.{items_view}
-use Rattle.arrays.specs.Shape.{fields_of}
-use Rattle.json_base.specs.JsonMember.{ReadsFirst}
-use Rattle.json_read.specs.EncodingParts.{parts_of}
-use Rattle.json_read.specs.JsonEncoding.{HasEncoding}
-use Rattle.json_read.specs.JsonFields.{ReadsField}
+use Rattle.json_base.specs.Prelude.{ReadsFirst, items_view}
+use Rattle.arrays.specs.Prelude.{fields_of}
+use Rattle.json_read.specs.Prelude.{HasEncoding, ReadsField, parts_of}
 use Rattle.json_read.proofs.schema.read_fields.Given as goal
 
 -- the fields so far are read, and their encodings

@@ -1,5 +1,5 @@
 use Rattle.std.proofs.Common.{subst, sym}
-use Rattle.json_base.specs.View.{items_view, view}
+use Rattle.json_base.specs.Prelude.{items_view, view}
 use Rattle.json_read.specs.JsonFields.{ReadsSchema}
 use Rattle.json_read.proofs.JsonSchemas.{schema_fault-read}
 use Rattle.json_base.proofs.JsonResults.{value_kept}

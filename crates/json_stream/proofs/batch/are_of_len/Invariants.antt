@@ -1,6 +1,6 @@
 use Rattle.std.proofs.Common.{◌≡◌, ℕ, ◌<◌, length}
 use Rattle.std.specs.Prelude.{slice_index_or}
-use Rattle.arrays.specs.Seen.{Seen}
+use Rattle.arrays.specs.Prelude.{Seen}
 use Rattle.json_stream.proofs.batch.are_of_len.Given as goal
 
 -- the columns so far have so many slots

@@ -1,8 +1,7 @@
 use Rattle.std.proofs.Common.{◌≡◌, ◌∙◌, ◌≤◌, length, None, sym, ap, subst, arith, rules}
 use Rattle.std.specs.Arc.{arc_value}
 use Rattle.std.specs.List.{All}
-use Rattle.arrays.specs.Batch.{batch_fault}
-use Rattle.arrays.specs.Seen.{Seen}
+use Rattle.arrays.specs.Prelude.{Seen, batch_fault}
 use Rattle.json_stream.proofs.ReadBatches.{lawful_batch}
 use Rattle.json_stream.proofs.batch.batch_of.Goals as goal
 

@@ -1,6 +1,6 @@
 use Rattle.std.proofs.Common.{◌∙◌}
 use Rattle.std.specs.Arc.{arc_value}
-use Rattle.json_read.specs.Data.{object}
+use Rattle.json_read.specs.Prelude.{object}
 use Rattle.json_stream.proofs.ReadBatches.{batch_read}
 use Rattle.json_stream.proofs.batch.read_batch.Goals as goal
 

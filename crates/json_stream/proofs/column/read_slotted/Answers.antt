@@ -1,5 +1,5 @@
 use Rattle.std.proofs.Common.{refl}
-use Rattle.json_read.specs.Data.{object}
+use Rattle.json_read.specs.Prelude.{object}
 use Rattle.json_stream.proofs.ColumnLemmas.{column_known}
 use Rattle.json_stream.proofs.column.read_slotted.Goals as goal
 

@@ -1,8 +1,7 @@
 use Rattle.std.proofs.Common.{◌≡◌, ◌∙◌, true, None, Some, ap, subst, sym}
 use Rattle.std.specs.List.{All}
 use Rattle.std.specs.Prelude.{option_and_then}
-use Rattle.arrays.specs.Packed.{IsBufferOf}
-use Rattle.arrays.specs.Shown.{kept}
+use Rattle.arrays.specs.Prelude.{IsBufferOf, kept}
 use Rattle.arrays.proofs.ValidityLemmas.{kept-ones, kept-some}
 use Rattle.json_stream.proofs.list.kept_buffer.Goals as goal
 

@@ -1,4 +1,4 @@
-use Rattle.json_read.specs.Data.{number}
+use Rattle.json_read.specs.Prelude.{number}
 use Rattle.json_stream.proofs.ColumnLemmas.{counted}
 use Rattle.json_stream.proofs.natural.read_count.Goals as goal
 

@@ -1,5 +1,5 @@
 use Rattle.std.proofs.Common.{refl}
-use Rattle.json_read.specs.Data.{boolean}
+use Rattle.json_read.specs.Prelude.{boolean}
 use Rattle.json_stream.proofs.natural.read_flag.Goals as goal
 
 pub returns-in-Bool-clause-reads : goal.returns-in-Bool-clause-reads

@@ -1,6 +1,5 @@
 use Rattle.std.proofs.Common.{◌∙◌, option_and_then, ap, sym}
-use Rattle.json_read.specs.Data.{number}
-use Rattle.json_read.specs.JsonNumber.{flag_number}
+use Rattle.json_read.specs.Prelude.{flag_number, number}
 use Rattle.json_stream.proofs.natural.read_number_flag.Goals as goal
 
 pub returns-clause-reads : goal.returns-clause-reads

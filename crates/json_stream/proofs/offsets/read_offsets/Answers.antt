@@ -1,5 +1,5 @@
 use Rattle.std.proofs.Common.{◌≡◌, [], refl, rules}
-use Rattle.json_read.specs.Data.{no_items}
+use Rattle.json_read.specs.Prelude.{no_items}
 use Rattle.json_scan.specs.Spelling.{before}
 use Rattle.json_stream.proofs.ListLemmas.{no_offsets}
 use Rattle.json_stream.proofs.offsets.read_offsets.Goals as goal

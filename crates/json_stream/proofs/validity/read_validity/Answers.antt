@@ -1,5 +1,5 @@
 use Rattle.std.proofs.Common.{refl}
-use Rattle.json_read.specs.Data.{null}
+use Rattle.json_read.specs.Prelude.{null}
 use Rattle.json_stream.proofs.validity.read_validity.Goals as goal
 
 pub returns-in-Null-clause-ok : goal.returns-in-Null-clause-ok

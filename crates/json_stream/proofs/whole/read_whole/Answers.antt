@@ -1,7 +1,7 @@
 use Rattle.std.proofs.Common.{rules}
 use Rattle.std.specs.Int.{w128}
 use Rattle.std.proofs.lemmas.Int.{to_z-of_z}
-use Rattle.json_read.specs.Data.{number, string}
+use Rattle.json_read.specs.Prelude.{number, string}
 use Rattle.json_stream.proofs.Numerals.{text_spelled}
 use Rattle.json_stream.proofs.whole.read_whole.Goals as goal
 

@@ -1,6 +1,5 @@
 use Rattle.std.proofs.Common.{◌∙◌, sym, subst}
-use Rattle.arrays.specs.FromParts.{show_numbers}
-use Rattle.arrays.specs.Packed.{IsBufferOf}
+use Rattle.arrays.specs.Prelude.{IsBufferOf, show_numbers}
 use Rattle.kernels.specs.Arithmetic.{operands_fault, arithmetic_fault}
 use Rattle.kernels.proofs.ResultLemmas.{computed, reported, reported_on, two_columns}
 use Rattle.kernels.proofs.arithmetic.computed.Goals as goal

@@ -1,9 +1,7 @@
 use Rattle.std.proofs.Common.{◌∙◌, sym, subst}
 use Rattle.std.specs.Int.{w128}
 use Rattle.std.proofs.lemmas.Int.{to_z-of_z}
-use Rattle.arrays.specs.FromParts.{show_numbers}
-use Rattle.arrays.specs.Number.{IsOfType}
-use Rattle.arrays.specs.Packed.{IsBufferOf}
+use Rattle.arrays.specs.Prelude.{IsBufferOf, IsOfType, show_numbers}
 use Rattle.arrays.proofs.RangeLemmas.{IsOfType-from_test}
 use Rattle.kernels.specs.Beside.{fault_with, number_beside, number_fault}
 use Rattle.kernels.proofs.BesideLemmas.{column_beside, fault_beside, kept_beside, number_fits, reported_beside}

@@ -1,5 +1,5 @@
 use Rattle.std.proofs.Common.{◌*◌}
-use Rattle.arrays.specs.Seen.{valid_in}
+use Rattle.arrays.specs.Prelude.{valid_in}
 use Rattle.kernels.specs.Computed.{AreResults, result_at}
 use Rattle.kernels.proofs.arithmetic.numbers.Given as goal
 

@@ -1,5 +1,5 @@
 use Rattle.std.proofs.Common.{sym, subst, refl}
-use Rattle.arrays.specs.Seen.{valid_in}
+use Rattle.arrays.specs.Prelude.{valid_in}
 use Rattle.kernels.specs.Computed.{AreResults, result_at}
 use Rattle.kernels.proofs.CheckedLemmas.{AreResults-word, least_bad, none_bad}
 use Rattle.kernels.proofs.arithmetic.push_checked.Goals as goal

@@ -1,6 +1,6 @@
 use Rattle.std.proofs.Common.{◌+◌, ◌++◌, ◌∙◌, ap, arith, is_some, not, sym, subst}
 use Rattle.std.proofs.lemmas.List.{append-nil}
-use Rattle.arrays.specs.Number.{IsOfType, is_of_type}
+use Rattle.arrays.specs.Prelude.{IsOfType, is_of_type}
 use Rattle.arrays.proofs.RangeLemmas.{IsOfType-from_test}
 use Rattle.colbits.proofs.BitLemmas.{bits-zero}
 use Rattle.kernels.specs.Computed.{result_or_zero, result_at}

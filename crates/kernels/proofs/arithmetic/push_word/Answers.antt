@@ -1,5 +1,5 @@
 use Rattle.std.proofs.Common.{◌≤◌, arith, rules, sym, subst}
-use Rattle.arrays.specs.Seen.{valid_in}
+use Rattle.arrays.specs.Prelude.{valid_in}
 use Rattle.kernels.specs.Computed.{AreResults, result_at}
 use Rattle.kernels.proofs.RowLemmas.{AreResults-rows}
 use Rattle.kernels.proofs.arithmetic.push_word.Goals as goal

@@ -2,9 +2,7 @@ use Rattle.std.proofs.Common.{◌≡◌, ◌-ℤ◌, None, IfErr, IfOk, subst}
 use Rattle.std.specs.Int.{w128}
 use Rattle.std.proofs.lemmas.Int.{to_z-of_z}
 use Rattle.arrays.specs.Shown.{shown}
-use Rattle.kernels.specs.Arithmetic.{results}
-use Rattle.kernels.specs.Beside.{fault_from, fault_with, number_beside, number_fault}
-use Rattle.kernels.specs.Fault.{IsKernelFault}
+use Rattle.kernels.specs.Prelude.{IsKernelFault, fault_from, fault_with, number_beside, number_fault, results}
 use Rattle.kernels.proofs.BesideLemmas.{fault_flipped, flipped, results_flipped}
 use Rattle.kernels.proofs.arithmetic.sub_from_number.Goals as goal
 

@@ -1,7 +1,7 @@
 use Rattle.std.proofs.Common.{◌∙◌, None, refl, subst, sym}
 use Rattle.std.specs.Int.{w128}
 use Rattle.std.proofs.lemmas.Int.{to_z-of_z}
-use Rattle.arrays.specs.Number.{IsOfType, number_at}
+use Rattle.arrays.specs.Prelude.{IsOfType, number_at}
 use Rattle.kernels.specs.Beside.{number_beside}
 use Rattle.arrays.proofs.RangeLemmas.{IsOfType-from_test}
 use Rattle.kernels.proofs.BesideLemmas.{beside_numbers, beside_size}

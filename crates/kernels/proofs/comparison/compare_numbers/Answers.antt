@@ -1,4 +1,4 @@
-use Rattle.arrays.specs.Number.{number_at}
+use Rattle.arrays.specs.Prelude.{number_at}
 use Rattle.kernels.proofs.ComparisonLemmas.{numbers-compared}
 use Rattle.kernels.proofs.ResultLemmas.{column_numbers}
 use Rattle.kernels.proofs.comparison.compare_numbers.Goals as goal

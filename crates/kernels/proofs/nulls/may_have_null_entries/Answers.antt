@@ -1,6 +1,5 @@
 use Rattle.std.proofs.Common.{◌≡◌, ◌∙◌, is_some, ap, false, subst, sym}
-use Rattle.arrays.specs.Seen.{Seen}
-use Rattle.arrays.specs.Values.{HasTexts}
+use Rattle.arrays.specs.Prelude.{HasTexts, Seen}
 use Rattle.kernels.proofs.NullLemmas.{holds_named}
 use Rattle.kernels.proofs.nulls.may_have_null_entries.Goals as goal
 

@@ -1,7 +1,5 @@
 use Rattle.std.proofs.Common.{false, refl, slice_index_or}
-use Rattle.arrays.specs.Item.{boolean, int, list, list_of, text}
-use Rattle.arrays.specs.Number.{number_at}
-use Rattle.arrays.specs.Offsets.{of_slot}
+use Rattle.arrays.specs.Prelude.{boolean, int, list, list_of, number_at, of_slot, text}
 use Rattle.kernels.proofs.NullLemmas.{holds_valid}
 use Rattle.kernels.proofs.nulls.may_name_nulls.Goals as goal
 

@@ -3,9 +3,7 @@ use Rattle.std.proofs.lemmas.List.{get_or_default}
 use Rattle.std.proofs.lemmas.Int.{to_z-of_z}
 use Rattle.std.specs.Int.{w128}
 use Rattle.std.specs.Prelude.{IfOk, slice_index_or}
-use Rattle.arrays.specs.Dictionary.{looked_up}
-use Rattle.arrays.specs.Item.{int, null}
-use Rattle.arrays.specs.Number.{natural}
+use Rattle.arrays.specs.Prelude.{int, looked_up, natural, null}
 use Rattle.keys.specs.Memo.{IsInterned, IsRemembered}
 use Rattle.keys.proofs.MemoLemmas.{code_below, step_entry}
 use Rattle.keys.proofs.codes.intern_code.Goals as goal

@@ -1,9 +1,6 @@
 use Rattle.std.proofs.Common.{◌∙◌, ◌∷◌, [], ap, arith, get_or, length, subst, sym}
-use Rattle.arrays.specs.Dictionary.{looked_up}
-use Rattle.arrays.specs.Seen.{Seen}
-use Rattle.arrays.specs.Slot.{item_of}
-use Rattle.keys.specs.Keys.{AreIds}
-use Rattle.keys.specs.Memo.{Knows}
+use Rattle.arrays.specs.Prelude.{Seen, item_of, looked_up}
+use Rattle.keys.specs.Prelude.{AreIds, Knows}
 use Rattle.keys.proofs.MemoLemmas.{coded_row, coded_within, next_id}
 use Rattle.keys.proofs.codes.intern_codes.Goals as goal
 

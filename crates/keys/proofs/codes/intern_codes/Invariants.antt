@@ -1,6 +1,5 @@
 use Rattle.std.proofs.Common.{◌≡◌, take}
-use Rattle.keys.specs.Keys.{AreIds, keys_at, with_keys}
-use Rattle.keys.specs.Memo.{Knows, Remembers}
+use Rattle.keys.specs.Prelude.{AreIds, Knows, Remembers, keys_at, with_keys}
 use Rattle.keys.proofs.codes.intern_codes.Given as goal
 
 -- The rows so far have their ids, and what is remembered is true.

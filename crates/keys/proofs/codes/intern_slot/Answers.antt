@@ -2,11 +2,8 @@ use Rattle.std.proofs.Common.{◌∙◌, ◌∷◌, [], ap, rules, subst, sym}
 use Rattle.std.proofs.lemmas.Int.{to_z-of_z}
 use Rattle.std.specs.Int.{w128}
 use Rattle.std.specs.Prelude.{FitsSigned, IfOk}
-use Rattle.arrays.specs.Batch.{row_of}
-use Rattle.arrays.specs.Dictionary.{looked_up}
-use Rattle.arrays.specs.Slot.{item_of}
-use Rattle.keys.specs.Keys.{key_of}
-use Rattle.keys.specs.Memo.{IsInterned, Knows, Remembers}
+use Rattle.arrays.specs.Prelude.{item_of, looked_up, row_of}
+use Rattle.keys.specs.Prelude.{IsInterned, Knows, Remembers, key_of}
 use Rattle.keys.proofs.MemoLemmas.{step_no_entry}
 use Rattle.keys.proofs.codes.intern_slot.Goals as goal
 

@@ -1,8 +1,6 @@
 use Rattle.std.proofs.Common.{◌∷◌, [], length}
 use Rattle.std.proofs.lemmas.List.Elements.{All-cons, All-nil}
-use Rattle.keys.specs.Parts.{IsWithin}
-use Rattle.keys.specs.PartSets.{parts_shown}
-use Rattle.keys.specs.Texts.{named_texts}
+use Rattle.keys.specs.Prelude.{IsWithin, named_texts, parts_shown}
 use Rattle.std.proofs.lemmas.Result.{on_ok_weaker}
 use Rattle.keys.proofs.PartLemmas.{keys_inserted, numbered, within_placed}
 use Rattle.keys.proofs.key_set.intern_part.Goals as goal

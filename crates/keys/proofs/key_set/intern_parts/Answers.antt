@@ -1,6 +1,5 @@
 use Rattle.std.proofs.Common.{length}
-use Rattle.keys.specs.PartSets.{parts_shown}
-use Rattle.keys.specs.Texts.{named_texts}
+use Rattle.keys.specs.Prelude.{named_texts, parts_shown}
 use Rattle.std.proofs.lemmas.Result.{on_ok_weaker}
 use Rattle.keys.proofs.PartLemmas.{keys_inserted, numbered, within_placed}
 use Rattle.keys.proofs.key_set.intern_parts.Goals as goal

@@ -1,7 +1,6 @@
 use Rattle.std.proofs.Common.{◌≡◌, map, take}
 use Rattle.group.specs.Scalars.{item_of_scalar}
-use Rattle.keys.specs.Parts.{key_of_parts}
-use Rattle.keys.specs.Texts.{named_texts}
+use Rattle.keys.specs.Prelude.{key_of_parts, named_texts}
 use Rattle.keys.proofs.key_set.items_of.Given as goal
 
 -- The items so far.

@@ -2,9 +2,7 @@ use Rattle.std.proofs.Common.{◌≡◌, length, take}
 use Rattle.std.specs.Prelude.{All}
 use mathlib.Core.List.{IsPrefix}
 use Rattle.arrays.specs.Batch.{row_of}
-use Rattle.keys.specs.Keys.{key_of}
-use Rattle.keys.specs.Parts.{IsWithin, key_of_parts}
-use Rattle.keys.specs.Texts.{named_texts}
+use Rattle.keys.specs.Prelude.{IsWithin, key_of, key_of_parts, named_texts}
 use Rattle.keys.proofs.key_set.parts_of.Given as goal
 
 -- The parts so far.

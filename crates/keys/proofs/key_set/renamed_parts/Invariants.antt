@@ -1,8 +1,7 @@
 use Rattle.std.proofs.Common.{◌≡◌, length, take}
 use Rattle.std.specs.Prelude.{All}
 use mathlib.Core.List.{IsPrefix}
-use Rattle.keys.specs.Parts.{IsWithin, key_of_parts}
-use Rattle.keys.specs.Texts.{named_texts}
+use Rattle.keys.specs.Prelude.{IsWithin, key_of_parts, named_texts}
 use Rattle.keys.proofs.key_set.renamed_parts.Given as goal
 
 -- The parts so far.

@@ -1,6 +1,6 @@
 use Rattle.std.proofs.Common.{◌∷◌, []}
 use Rattle.std.specs.Prelude.{slice_index_or}
-use Rattle.arrays.specs.Item.{null}
+use Rattle.arrays.specs.Prelude.{null}
 use Rattle.keys.proofs.MemoLemmas.{recalled}
 use Rattle.keys.proofs.memo.recall_entry.Goals as goal
 

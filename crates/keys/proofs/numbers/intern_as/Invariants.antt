@@ -1,6 +1,5 @@
 use Rattle.std.proofs.Common.{◌≡◌, take}
-use Rattle.keys.specs.Keys.{AreIds, keys_at, with_keys}
-use Rattle.keys.specs.Memo.{Remembers}
+use Rattle.keys.specs.Prelude.{AreIds, Remembers, keys_at, with_keys}
 use Rattle.keys.proofs.numbers.intern_as.Given as goal
 
 -- The rows so far have their numbers, and what is remembered is true.

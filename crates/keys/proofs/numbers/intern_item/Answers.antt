@@ -2,11 +2,8 @@ use Rattle.std.proofs.Common.{◌∙◌, ◌∷◌, [], ap, rules, subst, sym}
 use Rattle.std.proofs.lemmas.Int.{to_z-of_z}
 use Rattle.std.specs.Int.{w128}
 use Rattle.std.specs.Prelude.{FitsSigned, IfOk}
-use Rattle.arrays.specs.Batch.{row_of}
-use Rattle.arrays.specs.Item.{int}
-use Rattle.arrays.specs.Slot.{item_of}
-use Rattle.keys.specs.Keys.{key_of}
-use Rattle.keys.specs.Memo.{IsInterned, Remembers}
+use Rattle.arrays.specs.Prelude.{int, item_of, row_of}
+use Rattle.keys.specs.Prelude.{IsInterned, Remembers, key_of}
 use Rattle.keys.proofs.MemoLemmas.{step_null, step_other}
 use Rattle.keys.proofs.numbers.intern_item.Goals as goal
 

@@ -1,6 +1,5 @@
 use Rattle.std.proofs.Common.{subst, sym}
-use Rattle.keys.specs.Keys.{keys_at}
-use Rattle.keys.specs.Memo.{Remembers}
+use Rattle.keys.specs.Prelude.{Remembers, keys_at}
 use Rattle.std.proofs.lemmas.Result.{on_ok_weaker}
 use Rattle.keys.proofs.KeyLemmas.{Keys}
 use Rattle.keys.proofs.MemoLemmas.{entries_there, remembers-more}

@@ -1,7 +1,5 @@
 use Rattle.std.proofs.Common.{◌∙◌, ap, int_lt, sym, ◌+◌}
-use Rattle.types.specs.Kind.{kind_of}
-use Rattle.types.specs.Number.{number_at}
-use Rattle.types.specs.OffsetSize.{offset_type}
+use Rattle.types.specs.Prelude.{kind_of, number_at, offset_type}
 use Rattle.layout.specs.Fault.{least_row}
 use Rattle.layout.proofs.OffsetLemmas.{decreasing_row-offsets}
 use Rattle.layout.proofs.contents.decreasing_row.Goals as goal

@@ -1,6 +1,5 @@
 use Rattle.std.proofs.Common.{◌≡◌, ℕ, ◌+◌, Bool, true, sym, arith}
-use Rattle.types.specs.Number.{is_negative, number_at}
-use Rattle.types.specs.OffsetSize.{offset_type}
+use Rattle.types.specs.Prelude.{is_negative, number_at, offset_type}
 use Rattle.layout.proofs.RowLemmas.{any_found, any_none}
 use Rattle.layout.proofs.contents.is_some_negative.Goals as goal
 

@@ -1,6 +1,5 @@
 use Rattle.std.proofs.Common.{◌≡◌, ℕ, ◌<◌, false}
-use Rattle.types.specs.Number.{is_negative, number_at}
-use Rattle.types.specs.OffsetSize.{offset_type}
+use Rattle.types.specs.Prelude.{is_negative, number_at, offset_type}
 use Rattle.layout.proofs.contents.is_some_negative.Given as goal
 
 abbrev pub invariant-loop-j : goal.invariant-loop-j

@@ -1,7 +1,6 @@
 use Rattle.std.proofs.Common.{◌≡◌, ℕ, ◌+◌, Bool, true, sym, arith}
 use Rattle.std.specs.Prelude.{int_lt}
-use Rattle.types.specs.OffsetSize.{offset_type}
-use Rattle.types.specs.Number.{number_at}
+use Rattle.types.specs.Prelude.{number_at, offset_type}
 use Rattle.layout.proofs.RowLemmas.{least_found, least_none}
 use Rattle.layout.proofs.contents.least_decreasing.Goals as goal
 

@@ -1,7 +1,6 @@
 use Rattle.std.proofs.Common.{◌≡◌, ℕ, ◌+◌, ◌<◌, false}
 use Rattle.std.specs.Prelude.{int_lt}
-use Rattle.types.specs.OffsetSize.{offset_type}
-use Rattle.types.specs.Number.{number_at}
+use Rattle.types.specs.Prelude.{number_at, offset_type}
 use Rattle.layout.proofs.contents.least_decreasing.Given as goal
 
 abbrev pub invariant-loop-j : goal.invariant-loop-j

@@ -1,8 +1,6 @@
 use Rattle.std.proofs.Common.{◌≡◌, ◌∙◌, ℕ, ◌<◌, true, ap, sym, arith}
 use Rattle.std.specs.Str.{is_utf8}
-use Rattle.layout.specs.Layout.{bytes_at}
-use Rattle.layout.specs.Offsets.{slot_at}
-use Rattle.layout.specs.Fault.{is_no_text}
+use Rattle.layout.specs.Prelude.{bytes_at, is_no_text, slot_at}
 use Rattle.layout.proofs.RowLemmas.{least_found, least_none, no_text-of_text}
 use Rattle.layout.proofs.contents.least_no_text.Goals as goal
 

@@ -1,8 +1,7 @@
 use mir.Syntax.{erased}
 use Rattle.std.proofs.Common.{◌∙◌, ◌++◌, List, ap, inl, sym}
 use Rattle.shared.specs.Known.{Known}
-use Rattle.loads.specs.Loaded.{batches_of_files}
-use Rattle.loads.specs.Report.{last_receipts}
+use Rattle.loads.specs.Prelude.{batches_of_files, last_receipts}
 use Rattle.loads.proofs.RunLemmas.{all_loaded, all_newest, are_reported}
 use Rattle.loads.proofs.SendingLemmas.{gated-sync}
 use Rattle.loads.specs.contracts.loading.load_all.{P-row}

@@ -1,7 +1,6 @@
 use Rattle.std.proofs.Common.{◌∙◌, ◌++◌, ◌∷◌, [], Some, ap, arith, sym, vec_capacity, vec_len}
 use Rattle.std.specs.Prelude.{option_map}
-use Rattle.shared.specs.Left.{Left}
-use Rattle.shared.specs.Known.{Known}
+use Rattle.shared.specs.Prelude.{Known, Left}
 use Rattle.loads.proofs.ReportLemmas.{pushed_items, receipt_more, receipts_same}
 use Rattle.loads.proofs.outcomes.push_receipts.Goals as goal
 use Rattle.loads.proofs.outcomes.push_receipts.Goals.{in-Some, in_default}

@@ -3,8 +3,7 @@ use Rattle.std.proofs.lemmas.List.{length-map}
 use Rattle.std.specs.Arc.{arc_value}
 use Rattle.arrays.specs.File.{File}
 use Rattle.shared.specs.Hand.{Hand, calls_of_hand}
-use Rattle.loads.specs.Loaded.{Loaded, batches_of_files}
-use Rattle.loads.specs.Plan.{planned}
+use Rattle.loads.specs.Prelude.{Loaded, batches_of_files, planned}
 use Rattle.loads.proofs.LoadLemmas.{batches_at, is_stopped, last_moved, loaded_file, loaded_other, loaded_stopped, mapped_length, newest_moved}
 use Rattle.loads.proofs.work.add_files.Goals as goal
 use Rattle.loads.proofs.work.add_files.Goals.{then-number-count+in_default, else-number-count}

@@ -1,7 +1,6 @@
 use Rattle.std.proofs.Common.{◌≡◌, ◌≤◌, take}
 use Rattle.shared.specs.Hand.{calls_of_hand}
-use Rattle.loads.specs.Loaded.{HasLast, IsNewest, Loaded, batches_of_files}
-use Rattle.loads.specs.Plan.{planned}
+use Rattle.loads.specs.Prelude.{HasLast, IsNewest, Loaded, batches_of_files, planned}
 use Rattle.loads.proofs.work.add_files.Given as goal
 
 abbrev pub invariant-loop-number : goal.invariant-loop-number

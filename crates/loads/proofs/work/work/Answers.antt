@@ -1,6 +1,5 @@
 use Rattle.std.proofs.Common.{◌∙◌, ℕ, Some, ap, subst}
-use Rattle.shared.specs.Hand.{calls_of_hand}
-use Rattle.shared.specs.Left.{Left}
+use Rattle.shared.specs.Prelude.{Left, calls_of_hand}
 use Rattle.loads.specs.Loaded.{HasLast, batches_of_files}
 use Rattle.loads.proofs.RunLemmas.{run_left}
 use Rattle.loads.proofs.work.work.Goals as goal

@@ -1,6 +1,6 @@
 use Rattle.std.proofs.Common.{◌≡◌, Some, subst, sym}
 use Rattle.std.specs.Prelude.{IfSome, slice_index_or}
-use Rattle.arrays.specs.Item.{null}
+use Rattle.arrays.specs.Prelude.{null}
 use Rattle.pool.specs.Places.{IsKnown}
 use Rattle.pool.proofs.PlacingLemmas.{AreKnown-grown, AreKnown-set, known_from_placed, placed_by_known}
 use Rattle.pool.proofs.placing.add_row.Goals as goal

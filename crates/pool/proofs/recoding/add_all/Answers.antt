@@ -1,10 +1,8 @@
 use Rattle.std.proofs.Common.{rules, inl, inr, ◌≡◌, ◌∙◌, ◌+◌, ◌++◌, ◌∷◌, [], length, take, drop, Some, refl, sym, ap, subst, arith, slice_get, slice_index_or}
 use Rattle.std.proofs.lemmas.Option.{slice_get-get_or}
 use Rattle.std.proofs.lemmas.Grind.{common_steps}
-use Rattle.arrays.specs.Item.{null}
-use Rattle.arrays.specs.Slot.{item_of}
-use Rattle.pool.specs.Places.{AreKnown, with_item}
-use Rattle.pool.specs.Texts.{firsts, texts_of}
+use Rattle.arrays.specs.Prelude.{item_of, null}
+use Rattle.pool.specs.Prelude.{AreKnown, firsts, texts_of, with_item}
 use Rattle.pool.proofs.PrefixLemmas.{prefix_take}
 use Rattle.pool.proofs.RecodeLemmas.{Recoded-none, Recoded-item, pool-item, full_in_all, reported_of_all, begins_as_before}
 use Rattle.pool.proofs.recoding.add_all.Goals as goal

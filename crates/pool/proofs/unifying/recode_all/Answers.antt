@@ -1,7 +1,6 @@
 use Rattle.std.proofs.Common.{◌++◌, ◌∙◌, length, refl, ap}
 use Rattle.std.proofs.lemmas.Option.{slice_get_read}
-use Rattle.pool.specs.Texts.{firsts, texts_of, is_too_full}
-use Rattle.pool.specs.Unified.{all_texts}
+use Rattle.pool.specs.Prelude.{all_texts, firsts, is_too_full, texts_of}
 use Rattle.pool.proofs.RecodeLemmas.{reported_of_all}
 use Rattle.pool.proofs.UnifyLemmas.{Unified-view, full_in_views}
 use Rattle.pool.proofs.unifying.recode_all.Goals as goal

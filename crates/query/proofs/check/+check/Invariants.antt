@@ -1,7 +1,6 @@
 use Rattle.std.proofs.Common.{◌≡◌, map, drop}
 use Rattle.std.specs.Result.{result_err}
-use Rattle.query.specs.Checked.{all_checked}
-use Rattle.query.specs.Tree.{tree_of, trees}
+use Rattle.query.specs.Prelude.{all_checked, tree_of, trees}
 use Rattle.query.proofs.check.+check.Given as goal
 
 -- the first fault of all is that of the operands that are left

@@ -1,7 +1,6 @@
 use Rattle.std.proofs.Common.{◌∙◌, map, ap, sym}
 use Rattle.types.specs.Shape.{fields_of}
-use Rattle.query.specs.Resolved.{place_in, renamed}
-use Rattle.query.specs.Tree.{tree_of}
+use Rattle.query.specs.Prelude.{place_in, renamed, tree_of}
 use Rattle.query.proofs.ResolveLemmas.{renamed-Op}
 use Rattle.query.proofs.positions.+place.Goals as goal
 

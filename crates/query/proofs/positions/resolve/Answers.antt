@@ -1,7 +1,5 @@
 use Rattle.std.proofs.Common.{◌≡◌, ◌∙◌, Some, None, Ok, inl, inr, ap, refl, sym}
-use Rattle.query.specs.QueryShape.{query_shape}
-use Rattle.query.specs.FirstFault.{fits}
-use Rattle.query.specs.Resolved.{place_in, renamed_query, written}
+use Rattle.query.specs.Prelude.{fits, place_in, query_shape, renamed_query, written}
 use Rattle.query.proofs.ResolvedLemmas.{fault-written, fits-placed, handed_on, IsOk-query, resolved-deep, resolved-shallow}
 use Rattle.query.proofs.positions.resolve.Goals as goal
 

@@ -1,5 +1,5 @@
 use Rattle.std.proofs.Common.{◌≡◌, ◌++◌, map, string_bytes, take}
-use Rattle.table.specs.Resolved.{renamed_agg}
+use Rattle.table.specs.Prelude.{renamed_agg}
 use Rattle.reports.specs.GroupLines.{agg_label}
 use Rattle.reports.proofs.csv.column_names.Given as goal
 

@@ -1,5 +1,5 @@
 use Rattle.std.proofs.Common.{◌≡◌, map, string_bytes, take}
-use Rattle.table.specs.Answers.{group_shape}
+use Rattle.table.specs.Prelude.{group_shape}
 use Rattle.reports.specs.GroupLines.{group_lines}
 use Rattle.reports.proofs.forms.group_lines.Given as goal
 

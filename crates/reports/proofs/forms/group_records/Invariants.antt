@@ -1,6 +1,5 @@
 use Rattle.std.proofs.Common.{◌≡◌, map, string_bytes, take}
-use Rattle.table.specs.Answers.{group_shape}
-use Rattle.table.specs.Resolved.{named}
+use Rattle.table.specs.Prelude.{group_shape, named}
 use Rattle.reports.specs.GroupLines.{group_records}
 use Rattle.reports.proofs.forms.group_records.Given as goal
 

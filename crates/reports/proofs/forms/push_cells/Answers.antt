@@ -1,6 +1,5 @@
 use Rattle.std.proofs.Common.{◌∙◌, ◌++◌, Option, ap}
-use Rattle.table.specs.Scalar.{Scalar}
-use Rattle.table.specs.Scalars.{item_of_scalar}
+use Rattle.table.specs.Prelude.{Scalar, item_of_scalar}
 use Rattle.reports.specs.GroupLines.{spell}
 use Rattle.reports.proofs.JoinLemmas.{one_more}
 use Rattle.reports.proofs.forms.push_cells.Goals as goal

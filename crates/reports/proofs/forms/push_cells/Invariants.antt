@@ -1,5 +1,5 @@
 use Rattle.std.proofs.Common.{◌≡◌, ◌++◌, map, string_bytes, take}
-use Rattle.table.specs.Scalars.{item_of_scalar}
+use Rattle.table.specs.Prelude.{item_of_scalar}
 use Rattle.reports.specs.GroupLines.{joined_behind, spell}
 use Rattle.reports.proofs.forms.push_cells.Given as goal
 

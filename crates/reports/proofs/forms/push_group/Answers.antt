@@ -1,6 +1,5 @@
 use Rattle.std.proofs.Common.{◌≡◌, ◌∙◌, ◌++◌, ◌==◌, ℕ, List, OnOk, Option, ap, false, not, map, string_bytes, subst}
-use Rattle.table.specs.Scalar.{Scalar}
-use Rattle.table.specs.Scalars.{item_of_scalar}
+use Rattle.table.specs.Prelude.{Scalar, item_of_scalar}
 use Rattle.reports.specs.GroupLines.{joined_behind, spell}
 use Rattle.reports.proofs.JoinLemmas.{both}
 use Rattle.reports.proofs.forms.push_group.Goals as goal

@@ -1,6 +1,6 @@
 use Rattle.std.proofs.Common.{◌∙◌, ap, sym}
 use Rattle.std.proofs.lemmas.Result.{err_from_is_err_and}
-use Rattle.table.specs.Resolved.{named, resolved}
+use Rattle.table.specs.Prelude.{named, resolved}
 use Rattle.reports.proofs.FaultLemmas.{refused_under}
 use Rattle.reports.proofs.groups.placed_query.Goals as goal
 

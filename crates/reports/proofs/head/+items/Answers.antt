@@ -1,7 +1,7 @@
 use Rattle.std.proofs.Common.{◌≡◌, ◌∙◌, ◌++◌, ◌∷◌, ◌<◌, [], OnOk, ap, arith, get_or, length, string_bytes, subst, sym}
 use Rattle.std.specs.Prelude.{slice_index_or}
 use Rattle.std.proofs.lemmas.Option.{get_or_from_slice_get, slice_get-get_or}
-use Rattle.arrays.specs.Item.{null}
+use Rattle.arrays.specs.Prelude.{null}
 use Rattle.reports.specs.Shown.{array_text, cell}
 use Rattle.reports.proofs.JoinLemmas.{joined_more}
 use Rattle.reports.proofs.RowLemmas.{cells-list}

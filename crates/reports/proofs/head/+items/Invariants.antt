@@ -1,5 +1,5 @@
 use Rattle.std.proofs.Common.{◌≡◌, ◌+◌, ◌*◌, ◌++◌, ◌∷◌, [], map, string_bytes, take}
-use Rattle.arrays.specs.Kind.{depth}
+use Rattle.arrays.specs.Prelude.{depth}
 use Rattle.std.specs.List.{join_with_byte}
 use Rattle.reports.specs.Shown.{cell}
 use Rattle.reports.proofs.head.+items.Given as goal

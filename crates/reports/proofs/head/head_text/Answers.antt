@@ -3,10 +3,8 @@ use Rattle.std.specs.Arc.{arc_value}
 use Rattle.std.specs.List.{flat_map}
 use Rattle.std.proofs.lemmas.Grind.{flat_map-append}
 use Rattle.std.proofs.lemmas.List.{get_or-map, length-map, take_all, take_more}
-use Rattle.arrays.specs.Batch.{Batch, Table, rows_of}
-use Rattle.arrays.specs.Shape.{FieldShape, fields_of}
-use Rattle.table.specs.History.{rows}
-use Rattle.table.specs.Lawful.{IsStored, rows_of_batches}
+use Rattle.arrays.specs.Prelude.{Batch, FieldShape, Table, fields_of, rows_of}
+use Rattle.table.specs.Prelude.{IsStored, rows, rows_of_batches}
 use Rattle.reports.specs.Rows.{row_line}
 use Rattle.reports.proofs.RowLemmas.{left_more, rows_more}
 use Rattle.reports.proofs.head.head_text.Goals as goal

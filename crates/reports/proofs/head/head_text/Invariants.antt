@@ -1,7 +1,7 @@
 use Rattle.std.proofs.Common.{◌≡◌, ◌-◌, length, map, string_bytes, take}
 use Rattle.std.specs.Arc.{arc_value}
 use Rattle.std.specs.List.{flat_map}
-use Rattle.arrays.specs.Shape.{fields_of}
+use Rattle.arrays.specs.Prelude.{fields_of}
 use Rattle.table.specs.Lawful.{rows_of_batches}
 use Rattle.reports.specs.Rows.{row_line}
 use Rattle.reports.proofs.head.head_text.Given as goal

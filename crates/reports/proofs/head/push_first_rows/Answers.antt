@@ -1,5 +1,5 @@
 use Rattle.std.proofs.Common.{◌∙◌, ◌++◌, ap, rules, string_bytes}
-use Rattle.arrays.specs.Shape.{fields_of}
+use Rattle.arrays.specs.Prelude.{fields_of}
 use Rattle.reports.specs.Rows.{row_line}
 use Rattle.reports.proofs.RowLemmas.{fewer_rows}
 use Rattle.reports.proofs.head.push_first_rows.Goals as goal

@@ -3,10 +3,7 @@ use Rattle.std.specs.Prelude.{slice_index_or}
 use Rattle.std.specs.List.{join_with_byte, zip}
 use Rattle.std.proofs.lemmas.List.{get_or-map, length-map, take_all}
 use Rattle.std.proofs.lemmas.Slice.Zip.{get_or-zip, length-zip}
-use Rattle.arrays.specs.Batch.{row_of}
-use Rattle.arrays.specs.Item.{Item, null}
-use Rattle.arrays.specs.Seen.{Seen}
-use Rattle.arrays.specs.Shape.{FieldShape, field_of, fields_of}
+use Rattle.arrays.specs.Prelude.{FieldShape, Item, Seen, field_of, fields_of, null, row_of}
 use Rattle.reports.specs.Rows.{member_text}
 use Rattle.reports.proofs.JoinLemmas.{joined_more}
 use Rattle.reports.proofs.head.push_members.Goals as goal

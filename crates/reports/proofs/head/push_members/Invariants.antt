@@ -1,7 +1,6 @@
 use Rattle.std.proofs.Common.{◌≡◌, ◌++◌, map, string_bytes, take}
 use Rattle.std.specs.List.{join_with_byte, zip}
-use Rattle.arrays.specs.Batch.{row_of}
-use Rattle.arrays.specs.Shape.{fields_of}
+use Rattle.arrays.specs.Prelude.{fields_of, row_of}
 use Rattle.reports.specs.Rows.{member_text}
 use Rattle.reports.proofs.head.push_members.Given as goal
 

@@ -1,8 +1,6 @@
 use Rattle.std.proofs.Common.{◌∙◌, ◌++◌, ◌<◌, All, List, ap, append_assoc, arith, length, string_bytes, subst, sym, take}
 use Rattle.std.specs.List.{flat_map}
-use Rattle.arrays.specs.Batch.{row_of, rows_of}
-use Rattle.arrays.specs.Seen.{Seen}
-use Rattle.arrays.specs.Shape.{fields_of}
+use Rattle.arrays.specs.Prelude.{Seen, fields_of, row_of, rows_of}
 use Rattle.reports.specs.Rows.{row_line}
 use Rattle.reports.proofs.RowLemmas.{row_more, stored_long}
 use Rattle.reports.proofs.head.push_rows.Goals as goal

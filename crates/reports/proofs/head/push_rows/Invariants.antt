@@ -1,7 +1,6 @@
 use Rattle.std.proofs.Common.{◌≡◌, ◌++◌, string_bytes, take}
 use Rattle.std.specs.List.{flat_map}
-use Rattle.arrays.specs.Batch.{rows_of}
-use Rattle.arrays.specs.Shape.{fields_of}
+use Rattle.arrays.specs.Prelude.{fields_of, rows_of}
 use Rattle.reports.specs.Rows.{row_line}
 use Rattle.reports.proofs.head.push_rows.Given as goal
 

@@ -2,8 +2,7 @@ use Rattle.std.proofs.Common.{◌≡◌, ◌∙◌, ◌++◌, ◌<◌, Some, len
 use Rattle.std.specs.List.{slice_get}
 use Rattle.std.proofs.lemmas.List.{length-map}
 use Rattle.std.proofs.lemmas.Option.{slice_get-get_or}
-use Rattle.arrays.specs.Shape.{FieldShape, field_of}
-use Rattle.arrays.specs.Batch.{column}
+use Rattle.arrays.specs.Prelude.{FieldShape, column, field_of}
 use Rattle.table.specs.History.{rows}
 use Rattle.reports.specs.Shown.{column_lines, field_line}
 use Rattle.reports.proofs.ReportLemmas.{field-at, column_lines-more, one_line_more}

@@ -1,7 +1,6 @@
 use Rattle.std.proofs.Common.{◌≡◌, ◌∙◌, ◌++◌, ap, option_map, string_bytes}
-use Rattle.arrays.specs.Field.{out-Field}
-use Rattle.arrays.specs.Kind.{kind_of}
-use Rattle.table.specs.Summary.{scalar_item}
+use Rattle.arrays.specs.Prelude.{kind_of, out-Field}
+use Rattle.table.specs.Prelude.{scalar_item}
 use Rattle.reports.specs.Shown.{column_line}
 use Rattle.reports.proofs.ReportLemmas.{field_line-stats}
 use Rattle.reports.proofs.report.push_field_line.Goals as goal

@@ -1,6 +1,5 @@
 use Rattle.std.proofs.Common.{◌≡◌, ◌∙◌, ◌++◌, ap, string_bytes}
-use Rattle.arrays.specs.Field.{out-Field}
-use Rattle.arrays.specs.Kind.{kind_of}
+use Rattle.arrays.specs.Prelude.{kind_of, out-Field}
 use Rattle.reports.specs.Fields.{schema_line}
 use Rattle.reports.proofs.ReportLemmas.{schema_line-field}
 use Rattle.reports.proofs.schema.push_schema_line.Goals as goal

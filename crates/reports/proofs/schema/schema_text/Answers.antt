@@ -1,5 +1,5 @@
 use Rattle.std.proofs.Common.{◌∙◌, ◌∷◌, ◌++◌, [], ap, arith, sym}
-use Rattle.arrays.specs.Shape.{field_of}
+use Rattle.arrays.specs.Prelude.{field_of}
 use Rattle.reports.specs.Fields.{schema_lines}
 use Rattle.reports.proofs.ReportLemmas.{schema_lines-more}
 use Rattle.reports.proofs.schema.schema_text.Goals as goal

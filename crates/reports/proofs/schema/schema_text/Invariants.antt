@@ -1,5 +1,5 @@
 use Rattle.std.proofs.Common.{◌≡◌, map, string_bytes, take}
-use Rattle.arrays.specs.Shape.{field_of}
+use Rattle.arrays.specs.Prelude.{field_of}
 use Rattle.reports.specs.Fields.{schema_lines}
 use Rattle.reports.proofs.schema.schema_text.Given as goal
 

@@ -1,7 +1,6 @@
 use Rattle.std.proofs.Common.{◌≡◌, map, take}
 use Rattle.answers.specs.Answers.{group_shape}
-use Rattle.results.specs.Cell.{only_of}
-use Rattle.results.specs.Result.{item_at}
+use Rattle.results.specs.Prelude.{item_at, only_of}
 use Rattle.results.specs.declared.result_type.ResultType.TheVariants.{Bool}
 use Rattle.results.proofs.column.bool_column.Given as goal
 

@@ -1,5 +1,5 @@
 use Rattle.std.proofs.Common.{◌≡◌, map, take}
-use Rattle.arrays.specs.OffsetWidths.{Wide}
+use Rattle.arrays.specs.Prelude.{Wide}
 use Rattle.answers.specs.Answers.{group_shape}
 use Rattle.results.specs.Result.{item_at, decimal_text}
 use Rattle.results.proofs.column.text_column.Given as goal

@@ -3,7 +3,7 @@ use Rattle.std.proofs.lemmas.List.{map-append}
 use Rattle.std.proofs.lemmas.List.FromFn.{map-range_with_len_more}
 use Rattle.std.specs.List.{range_with_len}
 use Rattle.std.specs.Prelude.{slice_index_or}
-use Rattle.arrays.specs.Shape.{field, field_of, fields_of, shape_of}
+use Rattle.arrays.specs.Prelude.{field, field_of, fields_of, shape_of}
 use Rattle.results.specs.Result.{field_at}
 use Rattle.results.proofs.result.result_fields.Goals as goal
 

@@ -1,6 +1,6 @@
 use Rattle.std.proofs.Common.{◌≡◌, map, string_bytes}
 use Rattle.std.specs.List.{range_with_len}
-use Rattle.arrays.specs.Shape.{fields_of}
+use Rattle.arrays.specs.Prelude.{fields_of}
 use Rattle.results.specs.Result.{field_at}
 use Rattle.results.proofs.result.result_fields.Given as goal
 

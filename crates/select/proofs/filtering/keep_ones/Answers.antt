@@ -1,9 +1,7 @@
 use Rattle.std.proofs.Common.{◌∙◌, List, IfErr, ap, length, subst, sym}
 use Rattle.std.specs.List.{All}
-use Rattle.arrays.specs.Item.{Item}
-use Rattle.arrays.specs.Lengths.{is_too_big}
-use Rattle.select.specs.Fault.{IsFull}
-use Rattle.select.specs.Picked.{IsPick, picked, rows_of_ones}
+use Rattle.arrays.specs.Prelude.{Item, is_too_big}
+use Rattle.select.specs.Prelude.{IsFull, IsPick, picked, rows_of_ones}
 use Rattle.select.proofs.ChosenLemmas.{chosen-kept}
 use Rattle.select.proofs.SelectionLemmas.{ones-kept, ones-within}
 use Rattle.select.proofs.filtering.keep_ones.Goals as goal

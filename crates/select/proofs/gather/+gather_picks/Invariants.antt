@@ -1,4 +1,4 @@
-use Rattle.arrays.specs.Kind.{depth}
+use Rattle.arrays.specs.Prelude.{depth}
 use Rattle.select.proofs.gather.+gather_picks.Given as goal
 
 abbrev pub decreases-gather_picks : goal.decreases-gather_picks

@@ -1,9 +1,6 @@
 use Rattle.std.proofs.Common.{◌≡◌, ◌∙◌, All, ap, length, map, subst, sym}
 use Rattle.std.proofs.lemmas.Bool.{or_right}
-use Rattle.arrays.specs.Kind.{item_kind}
-use Rattle.arrays.specs.Lengths.{inner_items, is_past, is_too_big, list_length}
-use Rattle.arrays.specs.Values.{items_of_lists}
-use Rattle.arrays.specs.Shape.{field_of, kind_of_field}
+use Rattle.arrays.specs.Prelude.{field_of, inner_items, is_past, is_too_big, item_kind, items_of_lists, kind_of_field, list_length}
 use Rattle.arrays.proofs.ShapeLemmas.{kind_of_field-field_of}
 use Rattle.select.specs.Picked.{IsPick, picked}
 use Rattle.select.proofs.ChosenLemmas.{item-is, list-kind}

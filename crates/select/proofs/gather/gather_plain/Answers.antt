@@ -1,12 +1,8 @@
 use Rattle.std.proofs.Common.{◌≡◌, ◌∙◌, true, ap, subst, sym, length, All}
 use Rattle.std.specs.Arc.{arc_value}
-use Rattle.arrays.specs.Dictionary.{entries_shown, is_code}
+use Rattle.arrays.specs.Prelude.{Entries, Seen, entries_shown, int32, is_code, shown}
 use Rattle.arrays.specs.Kind as kind
-use Rattle.arrays.specs.Kind.{int32}
-use Rattle.arrays.specs.Seen.{Entries, Seen}
-use Rattle.arrays.specs.Shown.{shown}
-use Rattle.select.specs.Chosen.{chosen}
-use Rattle.select.specs.Picked.{picked, IsPick}
+use Rattle.select.specs.Prelude.{IsPick, chosen, picked}
 use Rattle.select.proofs.ChosenLemmas.{codes-picked, encoded-picked, length-codes}
 use Rattle.select.proofs.gather.gather_plain.Goals as goal
 

@@ -1,7 +1,6 @@
 use Rattle.std.proofs.Common.{◌≡◌, true, ap}
 use borrow.Author.Count.{below_more}
-use Rattle.arrays.specs.Dictionary.{is_code}
-use Rattle.arrays.specs.Slot.{item_of}
+use Rattle.arrays.specs.Prelude.{is_code, item_of}
 use Rattle.select.specs.Named.{index_at}
 use Rattle.select.proofs.indices.first_outside.Goals as goal
 

@@ -1,12 +1,6 @@
 use Rattle.std.proofs.Common.{◌∙◌, ◌<◌, ap, length, subst, sym}
-use Rattle.arrays.specs.Column.{SizedColumn}
+use Rattle.arrays.specs.Prelude.{Seen, SizedColumn, depth, joined_items, kind_of, kind_of_field, out-Field, same_kind, total, view_kind}
 use Rattle.arrays.specs.Kind as kind
-use Rattle.arrays.specs.Kind.{depth, kind_of, same_kind}
-use Rattle.arrays.specs.Lengths.{joined_items, total}
-use Rattle.arrays.specs.Seen.{Seen}
-use Rattle.arrays.specs.Shape.{kind_of_field}
-use Rattle.arrays.specs.ViewType.{view_kind}
-use Rattle.arrays.specs.Field.{out-Field}
 use Rattle.arrays.proofs.ShapeLemmas.{kind_of_field-field_of}
 use Rattle.select.specs.Joined.{is_content_too_big, joined}
 use Rattle.select.proofs.JoinLemmas.{child-shown, child-too_big, lists-joined}

@@ -1,5 +1,4 @@
-use Rattle.arrays.specs.Kind.{depth}
-use Rattle.arrays.specs.ViewType.{view_kind}
+use Rattle.arrays.specs.Prelude.{depth, view_kind}
 use Rattle.select.proofs.joining.+join.Given as goal
 
 abbrev pub decreases-join : goal.decreases-join

@@ -1,7 +1,6 @@
 use Rattle.std.proofs.Common.{◌∙◌, ap, false, inl, inr, length, refl, sym, true}
 use Rattle.std.proofs.lemmas.Result.{IfErr-weaker, IfOk-weaker}
-use Rattle.arrays.specs.Lengths.{is_past, joined_items}
-use Rattle.arrays.specs.ViewType.{view_kind}
+use Rattle.arrays.specs.Prelude.{is_past, joined_items, view_kind}
 use Rattle.select.specs.Joined.{is_content_too_big, is_joined_too_big, joined}
 use Rattle.select.proofs.JoinLemmas.{fault-of, first-kind, kinds-of, or-left, or-right}
 use Rattle.select.proofs.joining.concat.Goals as goal

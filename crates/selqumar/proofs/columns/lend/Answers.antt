@@ -2,8 +2,7 @@ use Rattle.std.proofs.Common.{◌∙◌, List, [], Some, ap, refl, subst, sym}
 use Rattle.std.proofs.lemmas.Option.{slice_get-get_or}
 use Rattle.std.specs.Arc.{arc_value}
 use Rattle.arrays.specs.Batch.{Batch}
-use Rattle.intake.specs.Lent.{LendsColumns}
-use Rattle.intake.specs.Node.{Node}
+use Rattle.intake.specs.Prelude.{LendsColumns, Node}
 use Rattle.selqumar.specs.Status.{IsTooShort}
 use Rattle.selqumar.proofs.LendLemmas.{lent_at}
 use Rattle.selqumar.proofs.columns.lend.Goals as goal

@@ -1,8 +1,6 @@
 use Rattle.std.proofs.Common.{◌≡◌, ◌∙◌, ◌⊎◌, Some, ap, string_bytes, subst}
 use Rattle.std.proofs.lemmas.Result.{IfErr-weaker, IfOk-weaker}
-use Rattle.embed.specs.Answer.{PrintsAnswer, StopsAnswer}
-use Rattle.embed.specs.Output.{IsAnswered, StopsQuery}
-use Rattle.embed.specs.RunFaults.{NoMemory}
+use Rattle.embed.specs.Prelude.{IsAnswered, NoMemory, PrintsAnswer, StopsAnswer, StopsQuery}
 use Rattle.selqumar.specs.Handle.{IsOpenOver, table_in}
 use Rattle.selqumar.proofs.StatusLemmas.{answers-files, leaves-answer, stops-files}
 use Rattle.selqumar.proofs.opened.selqumar_open_query.Goals as goal

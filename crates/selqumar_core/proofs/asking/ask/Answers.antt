@@ -1,5 +1,4 @@
-use Rattle.shared.specs.QueryShape.{query_shape}
-use Rattle.shared.specs.History.{rows}
+use Rattle.shared.specs.Prelude.{query_shape, rows}
 use Rattle.selqumar_core.proofs.AskedLemmas.{refused_at_row}
 use Rattle.selqumar_core.proofs.asking.ask.Goals as goal
 

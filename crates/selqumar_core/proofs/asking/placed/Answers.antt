@@ -1,11 +1,7 @@
 use Rattle.std.proofs.Common.{◌≡◌, ◌⊎◌, ◌∙◌, Err, ap, subst, sym}
 use Rattle.std.specs.Prelude.{IsOk}
-use Rattle.arrow_json.specs.QueryDocument.{ReadsQueryText}
-use Rattle.shared.specs.FirstFault.{fits}
-use Rattle.shared.specs.QueryShape.{query_shape}
-use Rattle.shared.specs.Resolved.{named, resolved}
-use Rattle.shared.specs.QueryFaults.{NoMemory}
-use Rattle.shared.specs.History.{rows}
+use Rattle.arrow_json.specs.Prelude.{ReadsQueryText}
+use Rattle.shared.specs.Prelude.{NoMemory, fits, named, query_shape, resolved, rows}
 use Rattle.selqumar_core.proofs.AskedLemmas.{refused_by_fields}
 use Rattle.selqumar_core.proofs.asking.placed.Goals as goal
 

@@ -1,7 +1,6 @@
 use Rattle.std.proofs.Common.{◌≡◌, ◌∙◌, arith, length, subst, sym}
 use Rattle.std.proofs.lemmas.Grind.{common_steps}
-use Rattle.shared.specs.Changes.{fields_after, pairs_in}
-use Rattle.shared.specs.Hand.{Hand, rows_of_hand}
+use Rattle.shared.specs.Prelude.{Hand, fields_after, pairs_in, rows_of_hand}
 use Rattle.shared.proofs.BalanceLemmas.{rows_widened}
 use Rattle.shared.proofs.lending.+tell_totals.Goals as goal
 

@@ -2,8 +2,7 @@ use Rattle.std.proofs.Common.{◌≡◌, arith, length, subst, take}
 use Rattle.std.proofs.Math.Seq.{take-length}
 use Rattle.std.proofs.lemmas.List.Elements.{All-more}
 use Rattle.std.specs.Prelude.{All}
-use Rattle.shared.specs.Changes.{known_after}
-use Rattle.shared.specs.Hand.{IsWorkerOf}
+use Rattle.shared.specs.Prelude.{IsWorkerOf, known_after}
 use Rattle.shared.proofs.locked.begin_all.Goals as goal
 
 pub loop-worker-preserved : goal.loop-worker-preserved

@@ -1,6 +1,5 @@
 use Rattle.std.specs.Prelude.{All, take}
-use Rattle.shared.specs.Changes.{known_after}
-use Rattle.shared.specs.Hand.{IsWorkerOf}
+use Rattle.shared.specs.Prelude.{IsWorkerOf, known_after}
 use Rattle.shared.proofs.locked.begin_all.Given as goal
 
 abbrev pub invariant-loop-worker : goal.invariant-loop-worker

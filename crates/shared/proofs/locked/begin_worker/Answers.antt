@@ -1,7 +1,5 @@
 use Rattle.std.proofs.Common.{subst}
-use Rattle.shared.specs.Changes.{known_after}
-use Rattle.shared.specs.Hand.{Hand}
-use Rattle.shared.specs.Known.{IsBeginning}
+use Rattle.shared.specs.Prelude.{Hand, IsBeginning, known_after}
 use Rattle.shared.proofs.KnownLemmas.{known_begins}
 use Rattle.shared.proofs.PartLemmas.{part_more}
 use Rattle.shared.proofs.locked.begin_worker.Goals as goal

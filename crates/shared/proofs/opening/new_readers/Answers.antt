@@ -1,7 +1,6 @@
 use Rattle.std.proofs.Common.{◌∙◌, [], ◌∷◌, ◌++◌, List, ap, replicate}
 use Rattle.std.proofs.lemmas.List.{replicate-append-replicate}
-use Rattle.shared.specs.Changes.{known_after}
-use Rattle.shared.specs.Known.{Known}
+use Rattle.shared.specs.Prelude.{Known, known_after}
 use Rattle.shared.proofs.KnownLemmas.{known_none}
 use Rattle.shared.proofs.opening.new_readers.Goals as goal
 

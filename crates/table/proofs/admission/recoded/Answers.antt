@@ -4,17 +4,10 @@ use Rattle.std.specs.List.{AllZip}
 use Rattle.std.specs.declared.alloc.Global.{Global}
 use Rattle.std.specs.declared.sync.Arc.{Arc}
 use Rattle.std.specs.declared.vec.Vec.{Vec}
-use Rattle.arrays.specs.Batch.{Batch, batch_fault}
-use Rattle.arrays.specs.Seen.{Seen}
-use Rattle.arrays.specs.Shape.{FieldShape}
-use Rattle.arrays.specs.Typed.{IsItemOf}
-use Rattle.answers.specs.ColumnStats.{ColumnStats}
-use Rattle.table.specs.Cause.{batch_cause}
-use Rattle.answers.specs.StatsOfColumns.{AreJoined}
+use Rattle.arrays.specs.Prelude.{Batch, FieldShape, IsItemOf, Seen, batch_fault}
+use Rattle.answers.specs.Prelude.{AreJoined, ColumnStats}
+use Rattle.table.specs.Prelude.{AreMoved, batch_cause, batches_of, book_of, full_cause, show}
 use Rattle.compaction.specs.Under.{IsDictionary, IsUnder}
-use Rattle.table.specs.Moved.{AreMoved}
-use Rattle.table.specs.Storage.{batches_of, book_of, show}
-use Rattle.table.specs.Recoded.{full_cause}
 use Rattle.table.proofs.ChunksLemmas.{copies-pushed}
 use Rattle.table.proofs.KeptLemmas.{IsFew}
 use Rattle.table.proofs.StorageLemmas.{few-pieces}

@@ -1,6 +1,5 @@
 use Rattle.std.proofs.Common.{All, take}
-use Rattle.arrays.specs.Seen.{Seen}
-use Rattle.arrays.specs.Typed.{IsItemOf}
+use Rattle.arrays.specs.Prelude.{IsItemOf, Seen}
 use Rattle.table.proofs.admission.tell_all.Given as goal
 
 abbrev pub invariant-loop-column : goal.invariant-loop-column

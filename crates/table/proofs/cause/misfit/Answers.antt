@@ -1,7 +1,5 @@
 use Rattle.std.proofs.Common.{◌≡◌, ◌∙◌, ◌∷◌, [], ap, option_map, sym}
-use Rattle.arrays.specs.Batch.{rows_of}
-use Rattle.arrays.specs.First.{first}
-use Rattle.arrays.specs.Shape.{fields_of}
+use Rattle.arrays.specs.Prelude.{fields_of, first, rows_of}
 use Rattle.table.specs.Cause.{difference, null_cause}
 use Rattle.table.specs.declared.refusal.Refusal.TheVariants.{SchemaDiffers}
 use Rattle.table.proofs.CauseLemmas.{first-one, nulls-reported}

@@ -2,7 +2,7 @@ use Rattle.std.proofs.Common.{◌∙◌, ◌≤◌, List, Option, length, ap, ma
 use Rattle.std.specs.List.{AllZip, zip}
 use Rattle.std.specs.declared.alloc.Global.{Global}
 use Rattle.std.specs.declared.sync.Arc.{Arc}
-use Rattle.arrays.specs.Seen.{Seen}
+use Rattle.arrays.specs.Prelude.{Seen}
 use Rattle.table.specs.Recoded.{entry_count, shortened}
 use Rattle.table.proofs.BackLemmas.{back-count, back-same, back-within}
 use Rattle.table.proofs.change.take_back.Goals as goal

@@ -3,7 +3,7 @@ use Rattle.std.specs.Arc.{arc_value}
 use Rattle.std.specs.List.{zip}
 use Rattle.std.proofs.lemmas.List.{length-map, map_push}
 use Rattle.std.proofs.lemmas.Slice.Zip.{length-zip}
-use Rattle.arrays.specs.Seen.{Seen}
+use Rattle.arrays.specs.Prelude.{Seen}
 use Rattle.table.specs.Recoded.{dictionary_for}
 use Rattle.table.proofs.RecodedLemmas.{AreStored, AreStored-more, AreStored-none, begun-all, beside, columns-stored, dictionaries-stored, full-here, none-full, pools-begun, pools-stored, stored-within}
 use Rattle.table.proofs.columns.stored_columns.Goals as goal

@@ -1,13 +1,8 @@
 use Rattle.std.proofs.Common.{◌≡◌, ◌∙◌, ◌++◌, true, ap, sym, subst, length, map, All}
 use Rattle.std.specs.Arc.{arc_value}
-use Rattle.arrays.specs.Dictionary.{is_code}
-use Rattle.arrays.specs.Item.{text}
+use Rattle.arrays.specs.Prelude.{Seen, int32, is_code, shown, text}
 use Rattle.arrays.specs.Kind as kind
-use Rattle.arrays.specs.Kind.{int32}
-use Rattle.arrays.specs.Seen.{Seen}
-use Rattle.arrays.specs.Shown.{shown}
-use Rattle.pool.specs.Codes.{code_item}
-use Rattle.pool.specs.Texts.{firsts, texts_of}
+use Rattle.pool.specs.Prelude.{code_item, firsts, texts_of}
 use Rattle.std.proofs.lemmas.List.{length-map}
 use Rattle.table.proofs.RecodedLemmas.{codes-within, column-coded, dictionary-front}
 use Rattle.table.proofs.columns.stored_texts.Goals as goal

@@ -3,8 +3,7 @@ use Rattle.std.proofs.lemmas.List.{map-append}
 use Rattle.std.proofs.lemmas.List.Elements.{All-push}
 use Rattle.std.specs.Arc.{arc_value}
 use Rattle.arrays.specs.Batch.{Table, rows_of}
-use Rattle.table.specs.Export.{IsUnder}
-use Rattle.table.specs.Storage.{show}
+use Rattle.table.specs.Prelude.{IsUnder, show}
 use Rattle.table.proofs.ExportLemmas.{Shared, lies, tables-all}
 use Rattle.table.proofs.export.entry_batches.Goals as goal
 

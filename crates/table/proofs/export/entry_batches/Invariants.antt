@@ -3,9 +3,7 @@ use Rattle.std.specs.Arc.{arc_value}
 use Rattle.std.specs.declared.alloc.Global.{Global}
 use Rattle.std.specs.declared.sync.Arc.{Arc}
 use Rattle.arrays.specs.Batch.{Batch, Table, rows_of}
-use Rattle.table.specs.Export.{IsExportPlace, IsUnder, passed}
-use Rattle.table.specs.Storage.{batches_of, book_of, show}
-use Rattle.table.specs.Lawful.{book_rows}
+use Rattle.table.specs.Prelude.{IsExportPlace, IsUnder, batches_of, book_of, book_rows, passed, show}
 use Rattle.table.proofs.export.entry_batches.Given as goal
 
 -- the batches so far are those of the first entries, and the place is behind them

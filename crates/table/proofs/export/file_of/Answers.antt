@@ -2,11 +2,8 @@ use Rattle.std.proofs.Common.{◌≡◌, ◌∙◌, All, List, ap, map, subst, s
 use Rattle.std.proofs.lemmas.Simd.{map-map}
 use Rattle.std.specs.Arc.{arc_value}
 use Rattle.std.specs.List.{AllByRecursion}
-use Rattle.arrays.specs.Batch.{Batch, rows_of}
-use Rattle.arrays.specs.File.{File}
-use Rattle.arrays.specs.Shape.{FieldShape}
-use Rattle.table.specs.Storage.{show}
-use Rattle.table.specs.Export.{IsLawful, IsUnder}
+use Rattle.arrays.specs.Prelude.{Batch, FieldShape, File, rows_of}
+use Rattle.table.specs.Prelude.{IsLawful, IsUnder, show}
 use Rattle.table.proofs.ExportLemmas.{Shared, are-batches, are-lawful, are-under}
 use Rattle.table.proofs.export.file_of.Goals as goal
 

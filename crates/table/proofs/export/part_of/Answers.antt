@@ -1,7 +1,6 @@
 use Rattle.std.proofs.Common.{◌∙◌, ◌+◌, ◌≤◌, All, ap, arith, length, map, subst, sym}
 use Rattle.std.specs.Arc.{arc_value}
-use Rattle.arrays.specs.Batch.{Batch, rows_of}
-use Rattle.arrays.specs.Seen.{Seen}
+use Rattle.arrays.specs.Prelude.{Batch, Seen, rows_of}
 use Rattle.table.specs.Export.{IsLawful, copied}
 use Rattle.table.proofs.ExportLemmas.{part-fits, rows-of-all, rows-of-part, slots-within}
 use Rattle.table.proofs.export.part_of.Goals as goal

@@ -4,11 +4,9 @@ use Rattle.std.specs.List.{AllZip}
 use Rattle.std.specs.declared.alloc.Global.{Global}
 use Rattle.std.specs.declared.sync.Arc.{Arc}
 use Rattle.std.specs.declared.vec.Vec.{Vec}
-use Rattle.arrays.specs.Batch.{Batch, rows_of}
-use Rattle.arrays.specs.Seen.{Seen}
-use Rattle.answers.specs.ColumnStats.{ColumnStats}
-use Rattle.compaction.specs.Neighbours.{AreGroups}
-use Rattle.compaction.specs.Under.{HaveStats, IsDictionary, IsUnder, pieces_of}
+use Rattle.arrays.specs.Prelude.{Batch, Seen, rows_of}
+use Rattle.answers.specs.Prelude.{ColumnStats}
+use Rattle.compaction.specs.Prelude.{AreGroups, HaveStats, IsDictionary, IsUnder, pieces_of}
 use Rattle.table.specs.Storage.{batches_of, dictionaries_in}
 use Rattle.table.specs.declared.storage.Storage.{Storage}
 use Rattle.table.proofs.ChunksLemmas.{images-same}

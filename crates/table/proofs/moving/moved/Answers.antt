@@ -4,8 +4,7 @@ use Rattle.std.specs.declared.alloc.Global.{Global}
 use Rattle.std.specs.declared.sync.Arc.{Arc}
 use Rattle.arrays.specs.Batch.{Batch}
 use Rattle.compaction.specs.Under.{IsUnder}
-use Rattle.table.specs.Moved.{AreMoved}
-use Rattle.table.specs.Storage.{batches_of}
+use Rattle.table.specs.Prelude.{AreMoved, batches_of}
 use Rattle.table.proofs.MovedLemmas.{moved-last, moved-none, under-last}
 use Rattle.table.proofs.moving.moved.Goals as goal
 

@@ -1,5 +1,5 @@
 use Rattle.std.proofs.Common.{arith, get_or, sym}
-use Rattle.arrays.specs.Item.{is_null, null}
+use Rattle.arrays.specs.Prelude.{is_null, null}
 use Rattle.table.proofs.NullLemmas.{null_there, position-found}
 use Rattle.table.proofs.nulls.first_null.Goals as goal
 

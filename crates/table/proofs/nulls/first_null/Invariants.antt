@@ -1,5 +1,5 @@
 use Rattle.std.proofs.Common.{◌≡◌, None, position, take}
-use Rattle.arrays.specs.Item.{is_null}
+use Rattle.arrays.specs.Prelude.{is_null}
 use Rattle.table.proofs.nulls.first_null.Given as goal
 
 abbrev pub invariant-loop-i : goal.invariant-loop-i

@@ -1,7 +1,6 @@
 use Rattle.std.proofs.Common.{◌≡◌, ◌∙◌, ◌<◌, length, ap, sym, arith}
 use Rattle.std.proofs.lemmas.List.{get_or-map, length-map}
-use Rattle.arrays.specs.Seen.{Seen}
-use Rattle.arrays.specs.Shape.{field_of, fields_of}
+use Rattle.arrays.specs.Prelude.{Seen, field_of, fields_of}
 use Rattle.table.proofs.NullLemmas.{null_cause-from, refused_from, refused_from-end, refused_from-none, refused_from-some}
 use Rattle.table.proofs.nulls.null_refusal.Goals as goal
 

@@ -1,10 +1,7 @@
 use Rattle.std.proofs.Common.{◌≡◌, map, drop}
 use Rattle.std.specs.List.{enumerate_from}
-use Rattle.arrays.specs.Shape.{fields_of}
-use Rattle.arrays.specs.First.{first}
-use Rattle.table.specs.Cause.{null_cause, null_in}
-use Rattle.table.specs.Columns.{HasColumns}
-use Rattle.arrays.specs.Batch.{Table}
+use Rattle.arrays.specs.Prelude.{Table, fields_of, first}
+use Rattle.table.specs.Prelude.{HasColumns, null_cause, null_in}
 use Rattle.table.proofs.nulls.null_refusal.Given as goal
 
 -- the fields so far have no null that they may not hold

@@ -1,5 +1,5 @@
 use Rattle.std.proofs.Common.{◌≡◌, take}
-use Rattle.arrays.specs.Shape.{fields_of}
+use Rattle.arrays.specs.Prelude.{fields_of}
 use Rattle.table.specs.Stored.{stored_fields}
 use Rattle.table.proofs.stored.stored_all.Given as goal
 

@@ -1,6 +1,5 @@
 use Rattle.std.proofs.Common.{◌≡◌, ◌∙◌, None, ap, sym}
-use Rattle.arrays.specs.Schema.{schema_fault}
-use Rattle.arrays.specs.Shape.{fields_of}
+use Rattle.arrays.specs.Prelude.{fields_of, schema_fault}
 use Rattle.table.specs.Stored.{stored_fields}
 use Rattle.table.proofs.StoredLemmas.{no_fault, schema_fault-stored}
 use Rattle.table.proofs.stored.stored_schema.Goals as goal

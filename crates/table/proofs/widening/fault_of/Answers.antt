@@ -1,6 +1,5 @@
 use Rattle.std.proofs.Common.{◌∙◌, false, refl, sym, true}
-use Rattle.arrays.specs.Kind.{has_dict_in_list, kind_of}
-use Rattle.arrays.specs.Field.{out-Field}
+use Rattle.arrays.specs.Prelude.{has_dict_in_list, kind_of, out-Field}
 use Rattle.table.proofs.AddLemmas.{faults-are}
 use Rattle.table.proofs.widening.fault_of.Goals as goal
 

@@ -1,10 +1,7 @@
 use Rattle.std.proofs.Common.{◌∙◌, ◌≡◌, ◌≤◌, ap, false, subst, sym, true}
-use Rattle.arrays.specs.Kind.{Kind, depth, has_dict_in_list}
-use Rattle.arrays.specs.Shape.{FieldShape, field_of, is_nullable, kind_of_field}
+use Rattle.arrays.specs.Prelude.{FieldShape, Kind, depth, field_of, has_dict_in_list, is_nullable, kind_of_field}
 use Rattle.arrays.proofs.ShapeLemmas.{kind_of_field-field_of}
-use Rattle.table.specs.Contents.{Contents}
-use Rattle.table.specs.Storage.{show}
-use Rattle.table.specs.Widened.{with_last_field}
+use Rattle.table.specs.Prelude.{Contents, show, with_last_field}
 use Rattle.table.specs.declared.storage.Storage.{Storage}
 use Rattle.table.proofs.AddLemmas.{fits-stored}
 use Rattle.table.proofs.PutLemmas.{if-ok}

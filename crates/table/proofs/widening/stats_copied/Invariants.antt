@@ -1,6 +1,6 @@
 use Rattle.std.proofs.Common.{take}
 use Rattle.std.specs.List.{AllZip}
-use Rattle.answers.specs.Summary.{AreSame}
+use Rattle.answers.specs.Prelude.{AreSame}
 use Rattle.table.proofs.widening.stats_copied.Given as goal
 
 abbrev pub invariant-loop-one : goal.invariant-loop-one

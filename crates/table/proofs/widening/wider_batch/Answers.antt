@@ -1,10 +1,6 @@
 use Rattle.std.proofs.Common.{◌≡◌, ◌∙◌, ◌++◌, [], ◌∷◌, List, ap, sym}
 use Rattle.std.specs.Arc.{arc_value}
-use Rattle.arrays.specs.Batch.{Batch, batch_fault}
-use Rattle.arrays.specs.Kind.{Kind, kind_of}
-use Rattle.arrays.specs.Nulls.{nulls}
-use Rattle.arrays.specs.Seen.{Seen}
-use Rattle.arrays.specs.Shape.{FieldShape, field_of}
+use Rattle.arrays.specs.Prelude.{Batch, FieldShape, Kind, Seen, batch_fault, field_of, kind_of, nulls}
 use Rattle.arrays.proofs.ShapeLemmas.{kind_of_field-field_of}
 use Rattle.table.specs.Widening.{with_nulls}
 use Rattle.table.proofs.WiderLemmas.{nulls-lawful}

@@ -2,8 +2,7 @@ use Rattle.std.proofs.Common.{◌≡◌, ◌++◌, [], ◌∷◌, subst, sym}
 use Rattle.std.specs.Arc.{arc_value}
 use Rattle.std.specs.declared.alloc.Global.{Global}
 use Rattle.std.specs.declared.sync.Arc.{Arc}
-use Rattle.arrays.specs.Batch.{Batch}
-use Rattle.arrays.specs.Shape.{field_of}
+use Rattle.arrays.specs.Prelude.{Batch, field_of}
 use Rattle.table.proofs.StorageLemmas.{all-of-map}
 use Rattle.table.proofs.widening.wider_batches.Goals as goal
 

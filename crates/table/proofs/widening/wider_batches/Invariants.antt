@@ -1,6 +1,6 @@
 use Rattle.std.proofs.Common.{◌≡◌, map, take}
 use Rattle.std.specs.Arc.{arc_value}
-use Rattle.arrays.specs.Shape.{field_of}
+use Rattle.arrays.specs.Prelude.{field_of}
 use Rattle.table.specs.Widening.{with_nulls}
 use Rattle.table.proofs.widening.wider_batches.Given as goal
 

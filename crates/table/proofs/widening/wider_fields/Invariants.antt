@@ -1,5 +1,5 @@
 use Rattle.std.proofs.Common.{◌≡◌, take}
-use Rattle.arrays.specs.Shape.{fields_of}
+use Rattle.arrays.specs.Prelude.{fields_of}
 use Rattle.table.proofs.widening.wider_fields.Given as goal
 
 abbrev pub invariant-loop-one : goal.invariant-loop-one

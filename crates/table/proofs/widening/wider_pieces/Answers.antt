@@ -5,10 +5,9 @@ use Rattle.std.specs.declared.sync.Arc.{Arc}
 use Rattle.std.specs.declared.vec.Vec.{Vec}
 use Rattle.std.proofs.lemmas.Option.{get_or_from_slice_get}
 use Rattle.std.proofs.lemmas.List.{length-map, map-append}
-use Rattle.arrays.specs.Batch.{Batch}
-use Rattle.arrays.specs.Kind.{kind_of}
+use Rattle.arrays.specs.Prelude.{Batch, kind_of}
 use Rattle.compaction.specs.Under.{pieces_of}
-use Rattle.answers.specs.ColumnStats.{ColumnStats}
+use Rattle.answers.specs.Prelude.{ColumnStats}
 use Rattle.table.specs.Widening.{AreWider}
 use Rattle.table.proofs.WiderLemmas.{at-image, pieces-all, pieces-more}
 use Rattle.table.proofs.widening.wider_pieces.Goals as goal

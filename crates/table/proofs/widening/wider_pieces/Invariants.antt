@@ -1,7 +1,7 @@
 use Rattle.std.proofs.Common.{map, take}
 use Rattle.std.specs.Arc.{arc_value}
 use Rattle.std.specs.List.{AllZip, zip}
-use Rattle.arrays.specs.Kind.{kind_of}
+use Rattle.arrays.specs.Prelude.{kind_of}
 use Rattle.compaction.specs.Under.{pieces_of}
 use Rattle.table.specs.Widening.{AreWider}
 use Rattle.table.proofs.widening.wider_pieces.Given as goal

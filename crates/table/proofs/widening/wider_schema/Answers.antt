@@ -1,7 +1,5 @@
 use Rattle.std.proofs.Common.{◌∙◌, ◌≡◌, ◌≤◌, ◌++◌, [], ◌∷◌, List, ap, false, subst, sym}
-use Rattle.arrays.specs.Kind.{Kind, depth, has_dict_in_list}
-use Rattle.arrays.specs.Schema.{schema_fault}
-use Rattle.arrays.specs.Shape.{FieldShape, field_of, fields_of}
+use Rattle.arrays.specs.Prelude.{FieldShape, Kind, depth, field_of, fields_of, has_dict_in_list, schema_fault}
 use Rattle.arrays.proofs.ShapeLemmas.{kind_of_field-field_of}
 use Rattle.table.proofs.AddLemmas.{schema-wider}
 use Rattle.table.proofs.StoredLemmas.{no_fault}

@@ -1,7 +1,6 @@
 use Rattle.std.proofs.Common.{replicate, subst}
-use Rattle.arrays.specs.Item.{null}
-use Rattle.arrays.specs.Kind.{Kind}
-use Rattle.answers.specs.Summary.{AreStats}
+use Rattle.arrays.specs.Prelude.{Kind, null}
+use Rattle.answers.specs.Prelude.{AreStats}
 use Rattle.table.proofs.widening.wider_stats.Goals as goal
 
 pub returns : goal.returns

@@ -2,9 +2,8 @@ use Rattle.std.proofs.Common.{◌≡◌, ◌∙◌, ◌<◌, ◌≤◌, ◌+◌,
 use Rattle.std.specs.Prelude.{slice_index_or}
 use Rattle.std.proofs.lemmas.List.{get_or-map, length-map}
 use Rattle.std.proofs.lemmas.List.Elements.{All-get_or}
-use Rattle.arrays.specs.Item.{Item, null}
-use Rattle.tallies.specs.Picked.{items_at}
-use Rattle.tallies.specs.Tallies.{tally_of}
+use Rattle.arrays.specs.Prelude.{Item, null}
+use Rattle.tallies.specs.Prelude.{items_at, tally_of}
 use Rattle.tallies.proofs.SpreadLemmas.{alone_few, alone_more, cell_few, cells_more}
 use Rattle.tallies.proofs.adding.add_each.Goals as goal
 

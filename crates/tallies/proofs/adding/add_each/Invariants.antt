@@ -1,8 +1,6 @@
 use Rattle.std.proofs.Common.{List, take}
-use Rattle.arrays.specs.Item.{Item}
-use Rattle.tallies.specs.Picked.{items_at}
-use Rattle.tallies.specs.Spread.{spread}
-use Rattle.tallies.specs.Tallies.{AreTallies}
+use Rattle.arrays.specs.Prelude.{Item}
+use Rattle.tallies.specs.Prelude.{AreTallies, items_at, spread}
 use Rattle.tallies.proofs.adding.add_each.Given as goal
 
 -- The rows so far are added.

@@ -1,9 +1,8 @@
 use Rattle.std.proofs.Common.{◌≡◌, ◌∙◌, ◌<◌, ◌+◌, ◌++◌, ◌∷◌, [], ap, append_assoc, arith, get_or, length, length-append, sym, take}
 use Rattle.std.specs.Prelude.{slice_index_or}
 use Rattle.std.proofs.lemmas.List.{get_or-map, length-map, take_all, take_more}
-use Rattle.arrays.specs.Item.{null}
-use Rattle.tallies.specs.Picked.{items_at}
-use Rattle.tallies.specs.Tallies.{TallyShape, tally_of}
+use Rattle.arrays.specs.Prelude.{null}
+use Rattle.tallies.specs.Prelude.{TallyShape, items_at, tally_of}
 use Rattle.tallies.proofs.SpreadLemmas.{length_taken}
 use Rattle.tallies.proofs.TallyLemmas.{counts_few}
 use Rattle.tallies.proofs.adding.with_rows.Goals as goal

@@ -1,7 +1,6 @@
 use Rattle.std.proofs.Common.{◌≡◌, ◌++◌, List, take}
-use Rattle.arrays.specs.Item.{Item}
-use Rattle.tallies.specs.Picked.{items_at}
-use Rattle.tallies.specs.Tallies.{tally_of}
+use Rattle.arrays.specs.Prelude.{Item}
+use Rattle.tallies.specs.Prelude.{items_at, tally_of}
 use Rattle.tallies.proofs.adding.with_rows.Given as goal
 
 -- The rows so far are added.

@@ -3,12 +3,9 @@ use Rattle.std.specs.Prelude.{slice_index_or}
 use Rattle.std.proofs.lemmas.List.{get_or-map, length-map}
 use Rattle.std.proofs.lemmas.List.Elements.{All-get_or}
 use Rattle.std.proofs.lemmas.Option.{get_or_from_slice_get}
-use Rattle.arrays.specs.Item.{null}
-use Rattle.group.specs.Summary.{scalar_item}
-use Rattle.tallies.specs.Columns.{show_item}
-use Rattle.tallies.specs.Ends.{agg_at, with_item}
-use Rattle.tallies.specs.Picked.{items_at}
-use Rattle.group.specs.Scalars.{item_of_ref}
+use Rattle.arrays.specs.Prelude.{null}
+use Rattle.group.specs.Prelude.{item_of_ref, scalar_item}
+use Rattle.tallies.specs.Prelude.{agg_at, items_at, show_item, with_item}
 use Rattle.tallies.proofs.SpreadLemmas.{cells_more}
 use Rattle.tallies.proofs.TallyLemmas.{item_bettered}
 use Rattle.tallies.proofs.items.add_items.Goals as goal

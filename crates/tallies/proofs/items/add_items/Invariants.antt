@@ -1,10 +1,6 @@
 use Rattle.std.proofs.Common.{List, take}
-use Rattle.arrays.specs.Item.{Item}
-use Rattle.tallies.specs.Columns.{show_item}
-use Rattle.tallies.specs.Ends.{agg_at}
-use Rattle.tallies.specs.Picked.{items_at}
-use Rattle.tallies.specs.Spread.{spread}
-use Rattle.tallies.specs.Tallies.{AreTallies}
+use Rattle.arrays.specs.Prelude.{Item}
+use Rattle.tallies.specs.Prelude.{AreTallies, agg_at, items_at, show_item, spread}
 use Rattle.tallies.proofs.items.add_items.Given as goal
 
 -- The rows so far are added.

@@ -1,10 +1,7 @@
 use Rattle.std.proofs.Common.{◌∙◌, ◌<◌, ap, arith, get_or, length, option_map, refl, sym}
 use Rattle.std.proofs.lemmas.List.Elements.{All-get_or}
-use Rattle.group.specs.Summary.{scalar_item}
-use Rattle.tallies.specs.Columns.{show_item}
-use Rattle.tallies.specs.Ends.{agg_at, with_item}
-use Rattle.tallies.specs.Tallies.{bettered}
-use Rattle.group.specs.Scalars.{item_of_ref}
+use Rattle.group.specs.Prelude.{item_of_ref, scalar_item}
+use Rattle.tallies.specs.Prelude.{agg_at, bettered, show_item, with_item}
 use Rattle.tallies.proofs.MergedLemmas.{merge_next, merged_end, with_better}
 use Rattle.tallies.proofs.items.merge_items.Goals as goal
 

@@ -1,7 +1,5 @@
 use Rattle.std.proofs.Common.{◌≡◌, map, take}
-use Rattle.tallies.specs.Columns.{show_item}
-use Rattle.tallies.specs.Ends.{agg_at}
-use Rattle.tallies.specs.Merging.{merge_all}
+use Rattle.tallies.specs.Prelude.{agg_at, merge_all, show_item}
 use Rattle.tallies.proofs.items.merge_items.Given as goal
 
 -- The bests so far are added.

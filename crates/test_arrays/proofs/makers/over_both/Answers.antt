@@ -1,8 +1,7 @@
 use Rattle.std.proofs.Common.{◌∙◌, [], ◌∷◌, List, ap, refl, subst, sym}
 use Rattle.std.specs.Arc.{arc_value}
 use mathlib.Core.List.{IsPrefix}
-use Rattle.arrays.specs.Item.{Item, text}
-use Rattle.arrays.specs.Seen.{Seen}
+use Rattle.arrays.specs.Prelude.{Item, Seen, text}
 use Rattle.test_arrays.proofs.makers.over_both.Goals as goal
 
 pub with_dictionary-requires-clause-begun : goal.with_dictionary-requires-clause-begun

@@ -1,8 +1,7 @@
 use Rattle.std.proofs.Common.{◌∙◌, map, ap, subst, sym}
 use Rattle.std.specs.Arc.{arc_value}
-use Rattle.answers.specs.QueryShape.{query_shape}
-use Rattle.answers.specs.FirstFault.{fits}
-use Rattle.arrow_json.specs.JsonFile.{AreUnder}
+use Rattle.answers.specs.Prelude.{fits, query_shape}
+use Rattle.arrow_json.specs.Prelude.{AreUnder}
 use Rattle.test_queries.proofs.BatchLemmas.{fits_each, types_same}
 use Rattle.test_queries.proofs.answering.read_both.Goals as goal
 

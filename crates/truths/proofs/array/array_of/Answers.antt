@@ -1,8 +1,7 @@
 use Rattle.std.proofs.Common.{◌∙◌, ap, map, sym}
 use Rattle.std.specs.List.{range_with_len}
 use Rattle.std.proofs.lemmas.Result.{IfOk-weaker}
-use Rattle.arrays.specs.Fault.{is_validity_short}
-use Rattle.arrays.specs.Shown.{kept}
+use Rattle.arrays.specs.Prelude.{is_validity_short, kept}
 use Rattle.arrays.proofs.ValidityLemmas.{kept_buffer}
 use Rattle.truths.proofs.TruthLemmas.{packed_enough, shown-truths}
 use Rattle.truths.proofs.array.array_of.Goals as goal

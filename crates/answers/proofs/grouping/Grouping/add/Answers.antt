@@ -2,16 +2,10 @@ use Rattle.std.proofs.Common.{◌≡◌, ◌∙◌, ◌<◌, ◌≤◌, ◌^◌,
 use Rattle.std.specs.Prelude.{All}
 use Rattle.std.proofs.lemmas.List.{length-map}
 use Rattle.arrays.specs.Batch.{Row, row_of}
-use Rattle.query.specs.QueryShape.{query_shape}
-use Rattle.query.specs.CalledColumns.{sort_at}
-use Rattle.query.specs.FirstFault.{agg_fault, key_fault}
-use Rattle.tallies.specs.Columns.{column_of, show_column}
-use Rattle.tallies.specs.Columns.{IsColumnOf}
-use Rattle.answers.specs.Grouping.{key_tables}
-use Rattle.keys.specs.Keys.{key_of}
-use Rattle.answers.specs.Groups.{rows_of_key}
-use Rattle.keys.specs.Keys.{AreIds, keys_at, with_keys}
-use Rattle.tallies.specs.Spread.{padded, spread}
+use Rattle.query.specs.Prelude.{agg_fault, key_fault, query_shape, sort_at}
+use Rattle.tallies.specs.Prelude.{IsColumnOf, column_of, padded, show_column, spread}
+use Rattle.answers.specs.Prelude.{key_tables, rows_of_key}
+use Rattle.keys.specs.Prelude.{AreIds, key_of, keys_at, with_keys}
 use Rattle.tallies.specs.declared.column.TallyColumn.{TallyColumn}
 use Rattle.std.proofs.lemmas.Result.{on_ok_weaker}
 use Rattle.tallies.proofs.ColumnLemmas.{refilled}

@@ -1,8 +1,6 @@
 use Rattle.std.proofs.Common.{◌≡◌, None, subst, sym}
 use Rattle.std.specs.Prelude.{All, OnOk}
-use Rattle.query.specs.QueryShape.{query_shape}
-use Rattle.query.specs.CalledColumns.{sort_at}
-use Rattle.query.specs.FirstFault.{key_fault}
+use Rattle.query.specs.Prelude.{key_fault, query_shape, sort_at}
 use Rattle.keys.specs.Memo.{KnowsEntries}
 use Rattle.std.proofs.lemmas.Result.{on_ok_weaker}
 use Rattle.answers.proofs.FitLemmas.{what_fits}

@@ -3,14 +3,9 @@ use Rattle.std.specs.Prelude.{All}
 use Rattle.std.proofs.lemmas.List.{length-map}
 use Rattle.std.proofs.lemmas.List.Elements.{All-weaker}
 use Rattle.arrays.specs.Batch.{Table}
-use Rattle.tallies.specs.Columns.{column_of, show_column}
-use Rattle.tallies.specs.Columns.{IsColumnOf}
-use Rattle.answers.specs.Grouping.{key_tables}
-use Rattle.answers.specs.Groups.{rows_of_key}
-use Rattle.keys.specs.Keys.{with_keys}
-use Rattle.keys.specs.Memo.{Remembers}
-use Rattle.tallies.specs.Merging.{AreAlike, spread_all}
-use Rattle.tallies.specs.Spread.{padded}
+use Rattle.tallies.specs.Prelude.{AreAlike, IsColumnOf, column_of, padded, show_column, spread_all}
+use Rattle.answers.specs.Prelude.{key_tables, rows_of_key}
+use Rattle.keys.specs.Prelude.{Remembers, with_keys}
 use Rattle.tallies.specs.declared.column.TallyColumn.{TallyColumn}
 use Rattle.std.proofs.lemmas.Result.{on_ok_weaker}
 use Rattle.tallies.proofs.ColumnLemmas.{refilled}

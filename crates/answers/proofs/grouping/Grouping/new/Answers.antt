@@ -1,13 +1,11 @@
 use Rattle.std.proofs.Common.{◌≡◌, ◌∙◌, ◌∷◌, [], List, ap, length, map, subst, sym}
 use Rattle.std.proofs.lemmas.Bool.{eqb-false, eqb-true}
 use Rattle.indexmap.specs.IndexSet.{insert_key}
-use Rattle.arrays.specs.Item.{Item}
-use Rattle.tallies.specs.Columns.{show_column}
+use Rattle.arrays.specs.Prelude.{Item}
+use Rattle.tallies.specs.Prelude.{padded, show_column, tally_of}
 use Rattle.answers.specs.Grouping.{IsGrouped}
 use Rattle.keys.specs.Same.{same_key}
 use Rattle.tallies.proofs.ColumnLemmas.{shape}
-use Rattle.tallies.specs.Spread.{padded}
-use Rattle.tallies.specs.Tallies.{tally_of}
 use Rattle.answers.proofs.GroupLemmas.{start_keyed, start_whole}
 use Rattle.answers.proofs.grouping.Grouping.new.Goals as goal
 use Rattle.answers.proofs.grouping.Grouping.new.Goals.{then-is_empty+in_ok-add_empty, else-is_empty}

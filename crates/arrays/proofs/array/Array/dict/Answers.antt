@@ -2,10 +2,8 @@ use Rattle.std.proofs.Common.{◌≡◌, ◌∙◌, map, option_map, ap, subst, 
 use Rattle.std.specs.Arc.{arc_value}
 use Rattle.std.specs.Prelude.{None}
 use Rattle.types.specs.Kind.{dict, kind_of}
-use Rattle.layout.specs.Reading.{reading}
-use Rattle.layout.specs.Checked.{checked_texts}
-use Rattle.arrays.specs.Array.{kind_with, words_with}
-use Rattle.arrays.specs.Parts.{read_alone}
+use Rattle.layout.specs.Prelude.{checked_texts, reading}
+use Rattle.arrays.specs.Prelude.{kind_with, read_alone, words_with}
 use Rattle.arrays.proofs.DictionaryLemmas.{MakesDict-array}
 use Rattle.arrays.proofs.array.Array.dict.Goals as goal
 

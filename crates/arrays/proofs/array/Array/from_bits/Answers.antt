@@ -1,7 +1,6 @@
 use Rattle.std.proofs.Common.{◌≡◌, ◌∙◌, IfOk, ap, subst}
 use Rattle.types.specs.Kind as kind
-use Rattle.layout.specs.Reading.{Reading}
-use Rattle.layout.specs.Seen.{Seen}
+use Rattle.layout.specs.Prelude.{Reading, Seen}
 use Rattle.types.proofs.ShapeLemmas.{kind_of-Bool}
 use Rattle.arrays.proofs.FromPartsLemmas.{read_bits, read_same, show_read_bits}
 use Rattle.arrays.proofs.array.Array.from_bits.Goals as goal

@@ -1,9 +1,7 @@
 use Rattle.std.proofs.Common.{◌≡◌, ◌∙◌, IfOk, None, Some, ap, map, option_map, subst, sym}
 use Rattle.std.specs.Arc.{arc_value}
 use Rattle.types.specs.Kind.{kind_of}
-use Rattle.layout.specs.Checked.{checked_texts, read_checked}
-use Rattle.layout.specs.Reading.{reading}
-use Rattle.layout.specs.Seen.{Seen}
+use Rattle.layout.specs.Prelude.{Seen, checked_texts, read_checked, reading}
 use Rattle.layout.specs.declared.raw.RawArray.{out-RawArray}
 use Rattle.layout.proofs.LawfulLemmas.{dictionary_raw, MakesArray-raw}
 use Rattle.arrays.proofs.PartsLemmas.{dict-lawful}

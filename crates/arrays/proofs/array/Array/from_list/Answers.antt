@@ -2,8 +2,7 @@ use Rattle.std.proofs.Common.{◌≡◌, ◌∙◌, IfOk, ap, subst}
 use Rattle.types.specs.declared.data_type.Field.{Field}
 use Rattle.types.specs.Kind as kind
 use Rattle.types.specs.Kind.{kind_of}
-use Rattle.layout.specs.Reading.{Reading}
-use Rattle.layout.specs.Seen.{Seen}
+use Rattle.layout.specs.Prelude.{Reading, Seen}
 use Rattle.arrays.proofs.ListArrays.{read_lists, read_over, show_read_lists}
 use Rattle.arrays.proofs.array.Array.from_list.Goals as goal
 

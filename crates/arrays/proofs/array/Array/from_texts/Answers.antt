@@ -1,7 +1,6 @@
 use Rattle.std.proofs.Common.{◌≡◌, ◌∙◌, IfOk, ap, subst}
 use Rattle.types.specs.Kind as kind
-use Rattle.layout.specs.Reading.{Reading}
-use Rattle.layout.specs.Seen.{Seen}
+use Rattle.layout.specs.Prelude.{Reading, Seen}
 use Rattle.arrays.proofs.FromPartsLemmas.{read_same, read_texts, show_read_texts}
 use Rattle.arrays.proofs.array.Array.from_texts.Goals as goal
 

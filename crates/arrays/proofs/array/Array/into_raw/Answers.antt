@@ -1,9 +1,7 @@
 use Rattle.std.proofs.Common.{◌≡◌, ◌∙◌, IfOk, ap, subst}
 use Rattle.types.specs.Kind as kind
 use Rattle.types.specs.Kind.{same_kind}
-use Rattle.layout.specs.Reading.{Reading, reading}
-use Rattle.layout.specs.Seen.{Seen}
-use Rattle.layout.specs.Checked.{checked}
+use Rattle.layout.specs.Prelude.{Reading, Seen, checked, reading}
 use Rattle.arrays.proofs.ListArrays.{read-wordless}
 use Rattle.arrays.proofs.array.Array.into_raw.Goals as goal
 

@@ -1,8 +1,7 @@
 use Rattle.std.proofs.Common.{map, option_map}
 use Rattle.std.specs.Arc.{arc_value}
 use Rattle.types.specs.Kind.{kind_of}
-use Rattle.layout.specs.Reading.{reading}
-use Rattle.layout.specs.Checked.{checked_texts}
+use Rattle.layout.specs.Prelude.{checked_texts, reading}
 use Rattle.arrays.specs.Array.{kind_with, words_with}
 use Rattle.arrays.proofs.DictionaryLemmas.{IsTexts-array}
 use Rattle.arrays.proofs.array.Array.into_texts.Goals as goal

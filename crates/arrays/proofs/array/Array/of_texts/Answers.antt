@@ -3,8 +3,7 @@ use Rattle.std.specs.Option.{option_copied}
 use Rattle.std.proofs.lemmas.Bool.{or_right}
 use Rattle.types.specs.declared.offset_width.OffsetWidth.TheVariants.{Narrow}
 use Rattle.types.specs.OffsetSize.{is_full}
-use Rattle.arrays.specs.Lengths.{text_bytes}
-use Rattle.arrays.specs.Slot.{item_of_text}
+use Rattle.arrays.specs.Prelude.{item_of_text, text_bytes}
 use Rattle.arrays.proofs.ExtendedLemmas.{full_of_all, full_taken}
 use Rattle.arrays.proofs.array.Array.of_texts.Goals as goal
 

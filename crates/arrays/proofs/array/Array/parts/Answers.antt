@@ -2,8 +2,7 @@ use Rattle.std.proofs.Common.{◌∙◌, None, Option, Some, ap, sym}
 use Rattle.std.specs.Arc.{arc_value}
 use Rattle.types.specs.Kind.{kind_of}
 use Rattle.layout.specs.Reading.{Reading}
-use Rattle.arrays.specs.Array.{kind_with, words_with}
-use Rattle.arrays.specs.Parts.{read_alone}
+use Rattle.arrays.specs.Prelude.{kind_with, read_alone, words_with}
 use Rattle.arrays.specs.declared.array.encoding.Encoding.{Encoding}
 use Rattle.arrays.specs.declared.array.parts.Parts.{Parts}
 use Rattle.arrays.proofs.LentLemmas.{lent-array}

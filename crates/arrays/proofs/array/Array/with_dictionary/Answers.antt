@@ -2,8 +2,7 @@ use Rattle.std.proofs.Common.{◌≡◌, ◌∙◌, None, map, ap, subst, sym, S
 use Rattle.std.specs.Arc.{arc_value}
 use Rattle.types.specs.Kind.{dict, kind_of}
 use Rattle.layout.specs.Reading.{reading}
-use Rattle.arrays.specs.Array.{kind_with, words_with}
-use Rattle.arrays.specs.Parts.{read_alone}
+use Rattle.arrays.specs.Prelude.{kind_with, read_alone, words_with}
 use Rattle.arrays.proofs.DictionaryLemmas.{MakesOver-array}
 use Rattle.arrays.proofs.array.Array.with_dictionary.Goals as goal
 

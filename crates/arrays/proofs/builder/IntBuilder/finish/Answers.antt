@@ -1,9 +1,8 @@
 use Rattle.std.proofs.Common.{◌∙◌, ap}
 use Rattle.std.proofs.lemmas.Result.{IfOk-weaker}
 use Rattle.layout.specs.Seen.{Seen}
-use Rattle.arrays.specs.Column.{Column}
+use Rattle.arrays.specs.Prelude.{Column, shown}
 use Rattle.types.specs.Kind as kind
-use Rattle.arrays.specs.Shown.{shown}
 use Rattle.arrays.proofs.BuilderLemmas.{numbers-shown}
 use Rattle.arrays.proofs.builder.IntBuilder.finish.Goals as goal
 

@@ -1,13 +1,9 @@
 use Rattle.std.proofs.Common.{◌∙◌, All, ap, arith, false, length, subst, sym}
 use Rattle.std.specs.Prelude.{slice_index_or}
 use Rattle.types.specs.Kind as kind
-use Rattle.types.specs.Kind.{Kind}
-use Rattle.types.specs.Number.{number_at}
-use Rattle.layout.specs.Item.{boolean, int, text}
-use Rattle.layout.specs.Offsets.{of_slot}
-use Rattle.layout.specs.Seen.{Seen}
-use Rattle.arrays.specs.Lengths.{is_too_big}
-use Rattle.arrays.specs.Typed.{IsItemOf}
+use Rattle.types.specs.Prelude.{Kind, number_at}
+use Rattle.layout.specs.Prelude.{Seen, boolean, int, of_slot, text}
+use Rattle.arrays.specs.Prelude.{IsItemOf, is_too_big}
 use Rattle.arrays.proofs.SizeLemmas.{lists-fit, texts-fit}
 use Rattle.arrays.proofs.TypedLemmas.{codes-typed, lists-typed, values-typed}
 use Rattle.arrays.proofs.view.View.+tell_items.Goals as goal

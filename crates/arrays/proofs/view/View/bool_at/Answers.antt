@@ -1,7 +1,6 @@
 use Rattle.std.proofs.Common.{◌≡◌, ◌∙◌, Some, true, false, rules, ap}
 use Rattle.std.proofs.lemmas.Option.{get_or_from_slice_get}
-use Rattle.layout.specs.Item.{boolean}
-use Rattle.layout.specs.Seen.{valid_at}
+use Rattle.layout.specs.Prelude.{boolean, valid_at}
 use Rattle.arrays.proofs.PartLemmas.{null_slot, valid_slot}
 use Rattle.arrays.proofs.view.View.bool_at.Goals as goal
 

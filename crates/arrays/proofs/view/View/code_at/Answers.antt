@@ -1,6 +1,5 @@
 use Rattle.std.proofs.Common.{◌≡◌, ◌∙◌, ◌<◌, Some, true, false, rules, ap, sym, subst, length, pos}
-use Rattle.layout.specs.Item.{int}
-use Rattle.layout.specs.Seen.{valid_at}
+use Rattle.layout.specs.Prelude.{int, valid_at}
 use Rattle.arrays.proofs.DictionaryViews.{codes_slots, named_item, valid_code, null_code}
 use Rattle.arrays.proofs.view.View.code_at.Goals as goal
 

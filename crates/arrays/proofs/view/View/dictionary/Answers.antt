@@ -1,7 +1,6 @@
 use Rattle.std.proofs.Common.{◌∙◌, ap, sym, option_map}
 use Rattle.std.specs.Arc.{arc_value}
-use Rattle.layout.specs.Checked.{checked_texts}
-use Rattle.layout.specs.Reading.{entries_of}
+use Rattle.layout.specs.Prelude.{checked_texts, entries_of}
 use Rattle.arrays.proofs.DictionaryViews.{codes_of_view}
 use Rattle.arrays.proofs.view.View.dictionary.Goals as goal
 

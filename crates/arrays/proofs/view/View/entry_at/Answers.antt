@@ -1,8 +1,7 @@
 use Rattle.std.proofs.Common.{◌∙◌, Some, ap, sym, slice_get}
 use Rattle.std.proofs.lemmas.Option.{get_or_from_slice_get}
 use Rattle.std.specs.Option.{option_copied}
-use Rattle.layout.specs.Item.{null}
-use Rattle.layout.specs.Seen.{Seen}
+use Rattle.layout.specs.Prelude.{Seen, null}
 use Rattle.arrays.specs.Slot.{item_of_text}
 use Rattle.arrays.proofs.view.View.entry_at.Goals as goal
 

@@ -1,9 +1,8 @@
 use Rattle.std.proofs.Common.{◌≡◌, ◌∙◌, false, not, ap, sym, get_or}
 use Rattle.std.proofs.lemmas.Option.{get_or_from_slice_get}
-use Rattle.layout.specs.Item.{null, is_null}
+use Rattle.layout.specs.Prelude.{Seen, is_null, null}
 use Rattle.types.specs.Kind as kind
 use Rattle.types.specs.Kind.{same_kind}
-use Rattle.layout.specs.Seen.{Seen}
 use Rattle.arrays.specs.Slot.{holds_at}
 use Rattle.arrays.proofs.DictionaryViews.{dict_kind, plain_kind}
 use Rattle.arrays.proofs.view.View.holds.Goals as goal

@@ -1,9 +1,8 @@
 use Rattle.std.proofs.Common.{◌≡◌, ◌∙◌, Some, cond, true, false, FitsSigned, rules, ap, sym}
 use Rattle.std.specs.Int.{w128}
 use Rattle.std.proofs.lemmas.Int.{to_z-of_z}
-use Rattle.layout.specs.Item.{int, null}
+use Rattle.layout.specs.Prelude.{int, null, valid_at}
 use Rattle.types.specs.Number.{number_at}
-use Rattle.layout.specs.Seen.{valid_at}
 use Rattle.arrays.proofs.SlotLemmas.{number_slot}
 use Rattle.arrays.proofs.view.View.int_as.Goals as goal
 

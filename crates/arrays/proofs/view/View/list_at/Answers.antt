@@ -1,9 +1,7 @@
 use Rattle.std.proofs.Common.{◌∙◌, Some, ap, sym}
 use Rattle.std.proofs.lemmas.Option.{slice_get-get_or}
-use Rattle.layout.specs.Item.{list, list_of, null}
-use Rattle.layout.specs.Seen.{Seen}
-use Rattle.arrays.specs.Slot.{item_at}
-use Rattle.arrays.specs.Values.{item_of_range}
+use Rattle.layout.specs.Prelude.{Seen, list, list_of, null}
+use Rattle.arrays.specs.Prelude.{item_at, item_of_range}
 use Rattle.arrays.proofs.view.View.list_at.Goals as goal
 
 pub returns-in-Some-clause-items : goal.returns-in-Some-clause-items

@@ -1,8 +1,7 @@
 use Rattle.std.proofs.Common.{length, subst, sym}
 use Rattle.types.specs.Kind.{kind_of}
 use Rattle.types.specs.declared.data_type.Field.{out-Field}
-use Rattle.layout.specs.Item.{list, list_of}
-use Rattle.layout.specs.Offsets.{AreOffsets, of_slot}
+use Rattle.layout.specs.Prelude.{AreOffsets, list, list_of, of_slot}
 use Rattle.layout.proofs.OffsetParts.{ends_within}
 use Rattle.arrays.specs.Values.{HasLists}
 use Rattle.arrays.proofs.PartLemmas.{child_of_view, child_there, list_kind, lists_of_view, some_list}

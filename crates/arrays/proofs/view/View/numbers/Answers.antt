@@ -1,8 +1,7 @@
 use Rattle.std.proofs.Common.{◌∙◌, ◌*◌, ◌+◌, ◌≤◌, length, ap, sym, subst}
 use Rattle.colbits.specs.Slice.{slice}
 use Rattle.types.specs.Kind.{bytes_of}
-use Rattle.layout.specs.Layout.{bytes_at}
-use Rattle.layout.specs.Seen.{Seen}
+use Rattle.layout.specs.Prelude.{Seen, bytes_at}
 use Rattle.arrays.specs.Values.{HasNumbers}
 use Rattle.arrays.proofs.ViewLemmas.{kind-show_view}
 use Rattle.arrays.proofs.SlotLemmas.{numbers-view}

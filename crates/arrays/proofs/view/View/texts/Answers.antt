@@ -1,8 +1,6 @@
 use Rattle.std.proofs.Common.{◌∙◌, ◌<◌, ◌≤◌, ap, length, subst, sym}
 use Rattle.std.proofs.lemmas.Str.{is_utf8-from_IsUtf8}
-use Rattle.layout.specs.Item.{text}
-use Rattle.layout.specs.Offsets.{AreOffsets, of_slot}
-use Rattle.layout.specs.Seen.{valid_in}
+use Rattle.layout.specs.Prelude.{AreOffsets, of_slot, text, valid_in}
 use Rattle.layout.proofs.OffsetParts.{ends_within}
 use Rattle.arrays.specs.Values.{HasTexts}
 use Rattle.arrays.proofs.PartLemmas.{texts_of_view}

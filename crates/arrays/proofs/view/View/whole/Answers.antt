@@ -1,7 +1,6 @@
 use Rattle.std.proofs.Common.{map, None, option_map, arith}
 use Rattle.std.specs.Arc.{arc_value}
-use Rattle.layout.specs.Reading.{reading}
-use Rattle.layout.specs.Checked.{checked_texts, read_checked}
+use Rattle.layout.specs.Prelude.{checked_texts, read_checked, reading}
 use Rattle.arrays.specs.ViewType.{view_kind}
 use Rattle.layout.proofs.SeenLemmas.{part-all, Fits-seen, short-of_lawful}
 use Rattle.arrays.proofs.view.View.whole.Goals as goal

@@ -1,7 +1,6 @@
 use Rattle.std.proofs.Common.{◌≡◌, ◌∙◌, None, ap}
 use Rattle.types.specs.Kind.{kind_of}
-use Rattle.layout.specs.Reading.{Reading}
-use Rattle.layout.specs.Checked.{read_checked}
+use Rattle.layout.specs.Prelude.{Reading, read_checked}
 use Rattle.arrays.specs.ViewType.{view_kind}
 use Rattle.layout.specs.declared.raw.RawArray.{out-RawArray}
 use Rattle.layout.proofs.ChildLemmas.{MakesArray-plain}

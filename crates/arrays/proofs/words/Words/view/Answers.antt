@@ -1,7 +1,6 @@
 use Rattle.std.proofs.Common.{[], None, ◌∙◌, ap, sym}
 use Rattle.types.specs.Kind.{utf8}
-use Rattle.layout.specs.Reading.{read_parts}
-use Rattle.layout.specs.Seen.{Seen}
+use Rattle.layout.specs.Prelude.{Seen, read_parts}
 use Rattle.arrays.specs.Dictionary.{entries_shown, texts_alone}
 use Rattle.arrays.proofs.DictionaryViews.{texts_seen}
 use Rattle.arrays.proofs.words.Words.view.Goals as goal

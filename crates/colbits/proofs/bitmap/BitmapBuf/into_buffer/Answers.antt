@@ -1,6 +1,5 @@
 use Rattle.std.proofs.Common.{◌∙◌, length, ap, sym, subst}
-use Rattle.colbits.specs.Bit.{bits}
-use Rattle.colbits.specs.Bitmap.{IsBitmap}
+use Rattle.colbits.specs.Prelude.{IsBitmap, bits}
 use Rattle.colbits.proofs.BitLemmas.{length-bits}
 use Rattle.colbits.proofs.bitmap.BitmapBuf.into_buffer.Goals as goal
 

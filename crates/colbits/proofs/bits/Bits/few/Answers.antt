@@ -1,7 +1,6 @@
 use Rattle.std.proofs.Common.{◌≡◌, ◌+◌, ◌&&◌, ◌<◌, ℕ, nat_lt, false, sym, ◌∙◌, subst, arith, w64}
 use Rattle.std.proofs.lemmas.Option.{get_or_from_slice_get}
-use Rattle.colbits.specs.Bit.{bit_in}
-use Rattle.colbits.specs.Bitmap.{bit_of}
+use Rattle.colbits.specs.Prelude.{bit_in, bit_of}
 use Rattle.colbits.proofs.BitLemmas.{bits-set, bits-left, bits-zero}
 use Rattle.colbits.proofs.bits.Bits.few.Goals as goal
 use Rattle.colbits.proofs.bits.Bits.few.Goals.{then-get, else-get}

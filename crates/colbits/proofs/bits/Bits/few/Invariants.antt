@@ -1,6 +1,5 @@
 use Rattle.std.proofs.Common.{◌≡◌, ◌+◌, ◌&&◌, ℕ, nat_lt}
-use Rattle.colbits.specs.Bit.{bit_in}
-use Rattle.colbits.specs.Bitmap.{bit_of}
+use Rattle.colbits.specs.Prelude.{bit_in, bit_of}
 use Rattle.colbits.proofs.bits.Bits.few.Given as goal
 
 -- the bits before the place are those of the list, and all others are 0

@@ -1,6 +1,5 @@
 use Rattle.std.proofs.Common.{◌≡◌, ◌+◌, ◌*◌, ◌/◌, ◌%◌, ◌<◌, ◌∙◌, ℕ, ap, arith}
-use Rattle.colbits.specs.Bit.{bit, bit_in}
-use Rattle.colbits.specs.Bitmap.{bit_of}
+use Rattle.colbits.specs.Prelude.{bit, bit_in, bit_of}
 use Rattle.colbits.proofs.LaneLemmas.{each-of_four}
 use Rattle.colbits.proofs.bits.Bits.few_lanes.Goals as goal
 

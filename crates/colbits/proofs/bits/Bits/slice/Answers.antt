@@ -1,7 +1,6 @@
 use Rattle.std.proofs.Common.{◌≡◌, ◌+◌, ◌/◌, ◌%◌, ◌≤◌, ◌∙◌, ℕ, List, ◌-◌, length, take, drop, sym, ap, arith, length-drop}
 use Rattle.std.proofs.lemmas.List.{take_rest}
-use Rattle.colbits.specs.Bit.{bits}
-use Rattle.colbits.specs.Slice.{slice}
+use Rattle.colbits.specs.Prelude.{bits, slice}
 use Rattle.colbits.proofs.BitLemmas.{length-bits, bits-drop, slice-bits}
 use Rattle.colbits.proofs.bits.Bits.slice.Goals as goal
 

@@ -1,7 +1,6 @@
 use Rattle.std.proofs.Common.{◌≡◌, ◌∙◌, [], sym, rules}
 use Rattle.std.proofs.lemmas.List.{length-replicate}
-use Rattle.arrays.specs.Item.{null}
-use Rattle.arrays.specs.ViewType.{view_kind}
+use Rattle.arrays.specs.Prelude.{null, view_kind}
 use Rattle.group.specs.Stats.{sum_of}
 use Rattle.group.proofs.NullLemmas.{all_counted, no_greatest, no_least, sum_of_nulls}
 use Rattle.group.proofs.stats.ColumnStats.all_null.Goals as goal

@@ -2,7 +2,7 @@ use Rattle.std.proofs.Common.{◌≡◌, ◌≢◌, ◌∙◌, Some, sym, ap, to
 use Rattle.std.specs.Int.{w128}
 use Rattle.std.specs.Prelude.{FitsSigned}
 use Rattle.std.proofs.lemmas.Int.{to_z-of_z}
-use Rattle.json_read.specs.JsonPath.{member_name}
+use Rattle.json_read.specs.Prelude.{member_name}
 use Rattle.json_read.specs.Members as member
 use Rattle.json_scan.proofs.Values.{if_ok_then}
 use Rattle.json_file.proofs.DictionaryLemmas.{id_taken, words_taken, entry_passed}

@@ -1,5 +1,5 @@
 use Rattle.std.proofs.Common.{◌≡◌, ◌≢◌, rules}
-use Rattle.json_read.specs.JsonPath.{member_name}
+use Rattle.json_read.specs.Prelude.{member_name}
 use Rattle.json_read.specs.Members as member
 use Rattle.json_file.proofs.DocumentLemmas.{batches_taken, dictionaries_taken, other_passed, schema_taken}
 use Rattle.json_file.proofs.document.DocumentPartsMemberVisitor.visit.Goals as goal

@@ -1,9 +1,7 @@
 use Rattle.std.proofs.Common.{◌≡◌, ◌≢◌, map, option_map, refl, ap, rules}
-use Rattle.arrays.specs.Shape.{fields_of}
-use Rattle.json_read.specs.Data.{array, no_items}
-use Rattle.json_read.specs.JsonPath.{member_name}
+use Rattle.arrays.specs.Prelude.{fields_of}
+use Rattle.json_read.specs.Prelude.{array, coding_of, member_name, no_items}
 use Rattle.json_read.specs.Members as member
-use Rattle.json_read.specs.CatalogParts.{coding_of}
 use Rattle.json_scan.specs.Spelling.{before}
 use Rattle.json_scan.proofs.Values.{if_ok_then}
 use Rattle.json_stream.proofs.BatchLemmas.{columns_known}

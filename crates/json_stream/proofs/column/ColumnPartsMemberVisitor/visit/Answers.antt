@@ -1,9 +1,8 @@
 use Rattle.std.proofs.Common.{◌≡◌, ◌≢◌, Some, subst, rules}
-use Rattle.json_read.specs.JsonPath.{member_name}
+use Rattle.json_read.specs.Prelude.{member_name}
 use Rattle.json_read.specs.Members as member
 use Rattle.json_scan.proofs.Values.{if_ok_then}
-use Rattle.json_stream.specs.Column.{IsValues}
-use Rattle.json_stream.specs.Field.{kind_in, coding_in}
+use Rattle.json_stream.specs.Prelude.{IsValues, coding_in, kind_in}
 use Rattle.json_stream.proofs.ColumnLemmas.{count_taken, validity_taken, data_taken, passed}
 use Rattle.json_stream.proofs.column.ColumnPartsMemberVisitor.visit.Goals as goal
 

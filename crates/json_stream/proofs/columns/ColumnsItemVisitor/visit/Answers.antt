@@ -1,9 +1,6 @@
 use Rattle.std.proofs.Common.{◌≡◌, ◌<◌, ◌∷◌, ◌++◌, [], length, get_or, map, option_map, sym, ap, subst, arith, rules}
-use Rattle.arrays.specs.Field.{out-Field}
-use Rattle.arrays.specs.Kind.{kind_of}
-use Rattle.arrays.specs.Shape.{fields_of}
-use Rattle.json_read.specs.CatalogParts.{coding_of}
-use Rattle.json_read.specs.JsonBatch.{HoldsTop}
+use Rattle.arrays.specs.Prelude.{fields_of, kind_of, out-Field}
+use Rattle.json_read.specs.Prelude.{HoldsTop, coding_of}
 use Rattle.json_stream.proofs.BatchLemmas.{columns_known, column_taken}
 use Rattle.json_stream.proofs.columns.ColumnsItemVisitor.visit.Goals as goal
 

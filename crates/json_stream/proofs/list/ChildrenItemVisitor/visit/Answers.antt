@@ -1,6 +1,5 @@
 use Rattle.std.proofs.Common.{◌≡◌, None, ap, rules}
-use Rattle.arrays.specs.Field.{out-Field}
-use Rattle.arrays.specs.Kind.{kind_of}
+use Rattle.arrays.specs.Prelude.{kind_of, out-Field}
 use Rattle.json_stream.proofs.ListLemmas.{child_taken}
 use Rattle.json_stream.proofs.list.ChildrenItemVisitor.visit.Goals as goal
 

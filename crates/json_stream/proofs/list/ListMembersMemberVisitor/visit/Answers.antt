@@ -1,8 +1,6 @@
 use Rattle.std.proofs.Common.{◌≡◌, ◌≢◌, Some, refl, ap, subst, rules}
-use Rattle.arrays.specs.Field.{out-Field}
-use Rattle.arrays.specs.Kind.{kind_of}
-use Rattle.json_read.specs.Data.{array}
-use Rattle.json_read.specs.JsonPath.{member_name}
+use Rattle.arrays.specs.Prelude.{kind_of, out-Field}
+use Rattle.json_read.specs.Prelude.{array, member_name}
 use Rattle.json_read.specs.Members as member
 use Rattle.json_scan.proofs.Values.{if_ok_then}
 use Rattle.json_stream.specs.Lists.{HoldsChildMember, array_of_one}

@@ -2,8 +2,7 @@ use Rattle.std.proofs.Common.{◌≡◌, true, refl, rules}
 use Rattle.std.specs.Int.{w128}
 use Rattle.std.specs.Prelude.{FitsSigned}
 use Rattle.std.proofs.lemmas.Int.{to_z-of_z}
-use Rattle.arrays.specs.OffsetSize.{offset_type}
-use Rattle.arrays.specs.Number.{is_of_type}
+use Rattle.arrays.specs.Prelude.{is_of_type, offset_type}
 use Rattle.json_stream.proofs.ListLemmas.{offset_taken}
 use Rattle.json_stream.proofs.offsets.OffsetsItemVisitor.visit.Goals as goal
 

@@ -3,9 +3,7 @@ use Rattle.std.specs.Arc.{arc_value}
 use Rattle.std.specs.Int.{w128}
 use Rattle.std.specs.Prelude.{FitsSigned}
 use Rattle.std.proofs.lemmas.Int.{to_z-of_z}
-use Rattle.arrays.specs.Dictionary.{is_code}
-use Rattle.arrays.specs.Item.{int}
-use Rattle.arrays.specs.Number.{is_of_type}
+use Rattle.arrays.specs.Prelude.{int, is_code, is_of_type}
 use Rattle.json_stream.proofs.CodeLemmas.{entry_with}
 use Rattle.json_stream.proofs.slots.CodeColumnSlotBuilder.push_value.Goals as goal
 

@@ -1,6 +1,6 @@
 use Rattle.std.proofs.Common.{refl}
-use Rattle.arrays.specs.Item.{text}
-use Rattle.json_read.specs.Data.{string}
+use Rattle.arrays.specs.Prelude.{text}
+use Rattle.json_read.specs.Prelude.{string}
 use Rattle.json_stream.proofs.slots.TextColumnSlotBuilder.push_value.Goals as goal
 
 pub returns-in-Ok-clause-ok : goal.returns-in-Ok-clause-ok

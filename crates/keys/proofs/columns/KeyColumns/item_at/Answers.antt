@@ -1,8 +1,7 @@
 use Rattle.std.proofs.Common.{◌∙◌, arith, sym}
 use Rattle.std.proofs.lemmas.Option.{get_or_from_slice_get}
-use Rattle.arrays.specs.Item.{null}
-use Rattle.arrays.specs.Seen.{Seen}
-use Rattle.evaluate.specs.Sorts.{is_plain}
+use Rattle.arrays.specs.Prelude.{Seen, null}
+use Rattle.evaluate.specs.Prelude.{is_plain}
 use Rattle.group.specs.Scalars.{item_of_ref}
 use Rattle.evaluate.proofs.RowLemmas.{has_sort, plain_is_no_list, sort_passes}
 use Rattle.keys.proofs.columns.KeyColumns.item_at.Goals as goal

@@ -2,9 +2,7 @@ use Rattle.std.proofs.Common.{◌∙◌, ap, length, subst, sym}
 use Rattle.std.specs.Prelude.{All}
 use Rattle.std.proofs.lemmas.List.Elements.{All-nil}
 use Rattle.indexmap.specs.IndexSet.{insert_key}
-use Rattle.keys.specs.Parts.{IsWithin, key_of_parts}
-use Rattle.keys.specs.Same.{same_key}
-use Rattle.keys.specs.Texts.{named_texts}
+use Rattle.keys.specs.Prelude.{IsWithin, key_of_parts, named_texts, same_key}
 use Rattle.keys.proofs.key_set.KeySet.add_empty.Goals as goal
 
 pub intern_parts-requires-clause-named : goal.intern_parts-requires-clause-named

@@ -2,11 +2,8 @@ use Rattle.std.proofs.Common.{◌≡◌, ◌∙◌, ◌∷◌, [], Some, ap, sub
 use Rattle.std.proofs.lemmas.Option.{get_or_from_slice_get}
 use Rattle.std.specs.Prelude.{IfOk, OnOk, slice_get}
 use Rattle.indexmap.specs.IndexSet.{insert_key}
-use Rattle.arrays.specs.Item.{null}
-use Rattle.keys.specs.Parts.{item_of_part, keys_shown}
-use Rattle.keys.specs.PartSets.{parts_shown}
-use Rattle.keys.specs.Same.{same_key}
-use Rattle.keys.specs.Texts.{named_texts}
+use Rattle.arrays.specs.Prelude.{null}
+use Rattle.keys.specs.Prelude.{item_of_part, keys_shown, named_texts, parts_shown, same_key}
 use Rattle.keys.proofs.PartLemmas.{keys-grown}
 use Rattle.keys.proofs.key_set.KeySet.intern_entry.Goals as goal
 

@@ -3,10 +3,7 @@ use Rattle.std.proofs.lemmas.List.{length-map}
 use Rattle.std.proofs.lemmas.List.Elements.{All-head}
 use Rattle.std.specs.Prelude.{IfOk, OnOk, slice_get}
 use Rattle.indexmap.specs.IndexSet.{insert_key}
-use Rattle.keys.specs.Parts.{IsWithin, item_of_part, key_of_parts, keys_shown}
-use Rattle.keys.specs.PartSets.{parts_shown, parts_stored}
-use Rattle.keys.specs.Same.{same_key}
-use Rattle.keys.specs.Texts.{named_texts}
+use Rattle.keys.specs.Prelude.{IsWithin, item_of_part, key_of_parts, keys_shown, named_texts, parts_shown, parts_stored, same_key}
 use Rattle.keys.proofs.PartLemmas.{keys-grown, stored_present, stored_key}
 use Rattle.keys.proofs.key_set.KeySet.intern_key.Goals as goal
 

@@ -2,10 +2,7 @@ use Rattle.std.proofs.Common.{◌≡◌, ◌∙◌, ◌∷◌, [], Some, subst}
 use Rattle.std.specs.Prelude.{IfOk, OnOk, slice_get}
 use Rattle.indexmap.specs.IndexSet.{insert_key}
 use Rattle.arrays.specs.Batch.{row_of}
-use Rattle.keys.specs.Parts.{item_of_part, key_of_parts, keys_shown}
-use Rattle.keys.specs.PartSets.{parts_shown}
-use Rattle.keys.specs.Same.{same_key}
-use Rattle.keys.specs.Texts.{named_texts}
+use Rattle.keys.specs.Prelude.{item_of_part, key_of_parts, keys_shown, named_texts, parts_shown, same_key}
 use Rattle.keys.proofs.PartLemmas.{are-grown, key_alone, keys-grown}
 use Rattle.keys.proofs.key_set.KeySet.intern_row.Goals as goal
 

@@ -1,9 +1,7 @@
 use Rattle.std.proofs.Common.{◌∙◌, ◌∷◌, [], Some, ap, arith, length, map}
 use Rattle.std.proofs.lemmas.List.{length-map}
 use Rattle.group.specs.Scalars.{item_of_scalar}
-use Rattle.keys.specs.Parts.{key_of_parts}
-use Rattle.keys.specs.PartSets.{parts_shown, parts_stored}
-use Rattle.keys.specs.Texts.{named_texts}
+use Rattle.keys.specs.Prelude.{key_of_parts, named_texts, parts_shown, parts_stored}
 use Rattle.keys.proofs.PartLemmas.{items_reported, stored_present, stored_there}
 use Rattle.keys.proofs.key_set.KeySet.key_at.Goals as goal
 

@@ -1,6 +1,5 @@
 use Rattle.std.proofs.Common.{◌∙◌, ◌<◌, Some, ap, sym, subst, length, pos}
-use Rattle.arrays.specs.Dictionary.{looked_up}
-use Rattle.arrays.specs.Item.{int}
+use Rattle.arrays.specs.Prelude.{int, looked_up}
 use Rattle.pool.specs.CodedViews.{HasCodes}
 use Rattle.pool.proofs.CodedLemmas.{coded_slot, named_slot, null_slot}
 use Rattle.pool.proofs.coded_view.CodedView.code_at.Goals as goal

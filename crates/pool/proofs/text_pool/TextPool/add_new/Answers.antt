@@ -1,11 +1,10 @@
 use Rattle.std.proofs.lemmas.Result.{err_from_is_err_and}
 use Rattle.std.proofs.Common.{inr, refl, ◌≡◌, ◌∙◌, ◌+◌, ◌-◌, ◌<◌, ◌≤◌, ◌++◌, ◌∷◌, [], ℕ, List, length, map, false, sym, ap, subst, arith}
 use Rattle.std.specs.String.{string_bytes}
-use Rattle.pool.specs.Texts.{is_among, is_too_full}
-use Rattle.pool.specs.Pool.{IsPool}
+use Rattle.pool.specs.Prelude.{IsPool, is_among, is_too_full}
 use Rattle.pool.proofs.PoolLemmas.{IsPool-push, inserted}
 use Rattle.pool.proofs.text_pool.TextPool.add_new.Goals as goal
-use Rattle.arrays.specs.Limits.{most_slots}
+use Rattle.arrays.specs.Prelude.{most_slots}
 
 pub invariant_of-self-2 : goal.invariant_of-self-2
 invariant_of-self-2 c =

@@ -1,8 +1,6 @@
 use Rattle.std.proofs.Common.{◌∙◌, ◌∷◌, ◌++◌, [], ◌<◌, ap, length, sym, arith, true≢false, inl, inr}
 use Rattle.std.specs.Option.{option_copied}
-use Rattle.arrays.specs.OffsetSize.{is_full}
-use Rattle.arrays.specs.Lengths.{text_bytes}
-use Rattle.arrays.specs.Slot.{item_of_text}
+use Rattle.arrays.specs.Prelude.{is_full, item_of_text, text_bytes}
 use Rattle.pool.proofs.UnifyLemmas.{text_added, text_fits}
 use Rattle.pool.proofs.text_pool.TextPool.completed.Goals as goal
 

@@ -1,6 +1,5 @@
 use Rattle.std.proofs.Common.{◌≡◌, take, map}
-use Rattle.arrays.specs.OffsetWidths.{Narrow}
-use Rattle.arrays.specs.Item.{text}
+use Rattle.arrays.specs.Prelude.{Narrow, text}
 use Rattle.pool.proofs.text_pool.TextPool.completed.Given as goal
 
 abbrev pub invariant-loop-code : goal.invariant-loop-code

@@ -4,7 +4,7 @@ use Rattle.std.specs.String.{string_bytes}
 use Rattle.pool.specs.Pool.{IsPool}
 use Rattle.pool.proofs.PoolLemmas.{cut_bounded, cut_within, IsPool-take, map-take}
 use Rattle.pool.proofs.text_pool.TextPool.cut_back.Goals as goal
-use Rattle.arrays.specs.Limits.{most_slots}
+use Rattle.arrays.specs.Prelude.{most_slots}
 
 pub byte_count-cut-requires : goal.byte_count-cut-requires
 byte_count-cut-requires c =

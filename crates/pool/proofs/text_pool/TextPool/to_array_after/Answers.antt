@@ -1,9 +1,5 @@
 use Rattle.std.proofs.Common.{◌∙◌, ◌++◌, List, ap, inl, inr, length, sym, true≢false}
-use Rattle.arrays.specs.OffsetSize.{is_full}
-use Rattle.arrays.specs.Item.{Item}
-use Rattle.arrays.specs.Lengths.{is_past, text_bytes}
-use Rattle.arrays.specs.Seen.{Seen}
-use Rattle.arrays.specs.Values.{items_of_texts}
+use Rattle.arrays.specs.Prelude.{Item, Seen, is_full, is_past, items_of_texts, text_bytes}
 use Rattle.pool.proofs.FrontLemmas.{front_fits}
 use Rattle.pool.proofs.text_pool.TextPool.to_array_after.Goals as goal
 

@@ -1,5 +1,5 @@
 use Rattle.std.proofs.Common.{◌≡◌, ◌&&◌, ℕ, None, drop, nat_lt, get_or}
-use Rattle.arrays.specs.Bit.{bit_in}
+use Rattle.arrays.specs.Prelude.{bit_in}
 use Rattle.select.specs.Stored.{is_stored}
 use Rattle.select.proofs.gather.bits.next_bits.Given as goal
 

@@ -2,7 +2,7 @@ use Rattle.std.proofs.Common.{◌≡◌, ◌∙◌, ◌+◌, ◌-◌, ◌*◌, �
 use Rattle.std.specs.Int.{to_le_bytes}
 use Rattle.std.proofs.lemmas.List.{drop-drop}
 use Rattle.std.proofs.lemmas.Result.{IfOk-weaker}
-use Rattle.arrays.specs.Bit.{bit, bit_in}
+use Rattle.arrays.specs.Prelude.{bit, bit_in}
 use Rattle.arrays.proofs.WordLemmas.{ArePlaces, word-last, word-more}
 use Rattle.select.specs.Stored.{is_stored}
 use Rattle.select.proofs.BitsLemmas.{bits-here, bits-word, packed-bitmap}

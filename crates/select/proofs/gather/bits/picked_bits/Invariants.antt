@@ -1,5 +1,5 @@
 use Rattle.std.proofs.Common.{◌≡◌, ◌*◌, ◌<◌, ℕ, None, drop, get_or, length}
-use Rattle.arrays.specs.Bit.{bit}
+use Rattle.arrays.specs.Prelude.{bit}
 use Rattle.select.specs.Stored.{is_stored}
 use Rattle.select.proofs.gather.bits.picked_bits.Given as goal
 

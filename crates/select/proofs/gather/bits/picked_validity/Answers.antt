@@ -1,7 +1,6 @@
 use Rattle.std.proofs.Common.{◌≡◌, ◌∙◌, ℕ, List, Bool, None, Some, ap, get_or, length, map, refl, subst, sym, true}
 use Rattle.std.specs.List.{All, range_with_len}
-use Rattle.arrays.specs.Packed.{IsBufferOf}
-use Rattle.arrays.specs.Shown.{kept}
+use Rattle.arrays.specs.Prelude.{IsBufferOf, kept}
 use Rattle.arrays.proofs.ValidityLemmas.{kept-ones, kept-some}
 use Rattle.select.specs.Stored.{is_stored}
 use Rattle.select.proofs.BitsLemmas.{bits-enough, bits-seen}

@@ -1,8 +1,7 @@
 use Rattle.std.proofs.Common.{◌∙◌, ℕ, None, Some, ap, get_or, length, map, sym, subst}
 use Rattle.std.specs.List.{range_with_len}
 use Rattle.std.proofs.lemmas.Result.{IfOk-weaker}
-use Rattle.arrays.specs.Packed.{IsBufferOf}
-use Rattle.arrays.specs.Shown.{kept}
+use Rattle.arrays.specs.Prelude.{IsBufferOf, kept}
 use Rattle.arrays.proofs.ValidityLemmas.{kept_buffer}
 use Rattle.select.specs.Stored.{is_stored}
 use Rattle.select.proofs.BitsLemmas.{bools-picked, long-bitmap}

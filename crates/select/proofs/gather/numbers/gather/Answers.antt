@@ -1,9 +1,7 @@
 use Rattle.std.proofs.Common.{◌∙◌, ℕ, None, ap, get_or, length, map, refl, subst, sym}
 use Rattle.std.specs.List.{range_with_len}
 use Rattle.std.proofs.lemmas.Result.{IfOk-weaker}
-use Rattle.arrays.specs.FromParts.{show_numbers}
-use Rattle.arrays.specs.Packed.{IsBufferOf}
-use Rattle.arrays.specs.Shown.{kept}
+use Rattle.arrays.specs.Prelude.{IsBufferOf, kept, show_numbers}
 use Rattle.arrays.proofs.ValidityLemmas.{kept_buffer}
 use Rattle.select.specs.Stored.{is_stored}
 use Rattle.select.proofs.StoredLemmas.{numbers-picked}

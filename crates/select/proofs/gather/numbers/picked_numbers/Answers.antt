@@ -2,7 +2,7 @@ use Rattle.std.proofs.Common.{◌≡◌, None, IfSome, arith, subst, sym}
 use Rattle.std.specs.Int.{w128}
 use Rattle.std.proofs.lemmas.Int.{to_z-of_z}
 use Rattle.std.proofs.lemmas.Option.{get_or_from_slice_get}
-use Rattle.arrays.specs.Number.{number_at}
+use Rattle.arrays.specs.Prelude.{number_at}
 use Rattle.arrays.proofs.NumberLemmas.{FitsSigned-from_type}
 use Rattle.select.specs.Picked.{IsPick}
 use Rattle.select.proofs.RestLemmas.{is_next, some_left}

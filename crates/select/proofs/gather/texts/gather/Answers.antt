@@ -1,7 +1,6 @@
 use Rattle.std.proofs.Common.{◌∙◌, All, List, ap, subst, sym}
-use Rattle.arrays.specs.Item.{Item}
-use Rattle.select.specs.Picked.{IsPick, picked}
-use Rattle.select.specs.Texts.{AreOffsetsOf, all_bytes}
+use Rattle.arrays.specs.Prelude.{Item}
+use Rattle.select.specs.Prelude.{AreOffsetsOf, IsPick, all_bytes, picked}
 use Rattle.select.proofs.TextLemmas.{most-counted, texts_done}
 use Rattle.select.proofs.gather.texts.gather.Goals as goal
 

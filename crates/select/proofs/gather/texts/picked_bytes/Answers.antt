@@ -1,9 +1,7 @@
 use Rattle.std.proofs.Common.{◌∙◌, ◌+◌, ◌++◌, ◌∷◌, [], take, ap, sym, arith}
 use Rattle.std.specs.Option.{option_copied}
-use Rattle.arrays.specs.Slot.{item_of_text}
-use Rattle.arrays.specs.Values.{items_of_texts}
-use Rattle.select.specs.Picked.{IsPick, picked}
-use Rattle.select.specs.Texts.{all_bytes}
+use Rattle.arrays.specs.Prelude.{item_of_text, items_of_texts}
+use Rattle.select.specs.Prelude.{IsPick, all_bytes, picked}
 use Rattle.select.proofs.PickLemmas.{all-at, picked-all, picked-more}
 use Rattle.select.proofs.RestLemmas.{is_next, some_left}
 use Rattle.select.proofs.TextLemmas.{bytes-more}

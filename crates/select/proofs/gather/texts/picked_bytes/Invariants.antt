@@ -1,7 +1,6 @@
 use Rattle.std.proofs.Common.{◌≡◌, drop, take}
 use Rattle.arrays.specs.Values.{items_of_texts}
-use Rattle.select.specs.Picked.{picked}
-use Rattle.select.specs.Texts.{all_bytes}
+use Rattle.select.specs.Prelude.{all_bytes, picked}
 use Rattle.select.proofs.gather.texts.picked_bytes.Given as goal
 
 abbrev pub invariant-loop-slot : goal.invariant-loop-slot

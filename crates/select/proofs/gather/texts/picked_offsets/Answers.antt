@@ -1,13 +1,7 @@
 use Rattle.std.proofs.Common.{rules, ◌≡◌, ◌∙◌, ◌+◌, ◌≤◌, ◌++◌, ◌∷◌, [], List, take, ap, sym, subst, arith, pos, refl}
 use Rattle.std.specs.Option.{option_copied}
-use Rattle.arrays.specs.OffsetSize.{is_full, most_of, offset_type}
-use Rattle.arrays.specs.Number.{bytes_of_number}
-use Rattle.arrays.specs.Item.{Item}
-use Rattle.arrays.specs.Slot.{item_of_text}
-use Rattle.arrays.specs.Values.{items_of_texts}
-use Rattle.select.specs.Picked.{IsPick, picked}
-use Rattle.select.specs.Texts.{AreOffsetsOf}
-use Rattle.arrays.specs.Lengths.{text_length}
+use Rattle.arrays.specs.Prelude.{Item, bytes_of_number, is_full, item_of_text, items_of_texts, most_of, offset_type, text_length}
+use Rattle.select.specs.Prelude.{AreOffsetsOf, IsPick, picked}
 use Rattle.select.proofs.ListLemmas.{full_of_all}
 use Rattle.select.proofs.PickLemmas.{all-at, picked-all, picked-more}
 use Rattle.select.proofs.RestLemmas.{is_next, some_left}

@@ -1,12 +1,11 @@
 use Rattle.std.proofs.Common.{◌∙◌, ap, arith, option_map, subst, sym}
 use Rattle.std.specs.Prelude.{All}
-use Rattle.select.specs.Named.{index_at, rows_named}
-use Rattle.select.specs.Picked.{IsPick, picked}
+use Rattle.select.specs.Prelude.{IsPick, index_at, picked, rows_named}
 use Rattle.select.specs.declared.fault.SelectFault.TheVariants.{IndexOutOfRange}
 use Rattle.select.proofs.NamedLemmas.{Taken-named, index_there, names-more}
 use Rattle.select.proofs.SelectionLemmas.{Taken-all, Taken-inside, Taken-outside}
 use Rattle.select.proofs.indices.Indices.of.Goals as goal
-use Rattle.arrays.specs.Limits.{most_slots}
+use Rattle.arrays.specs.Prelude.{most_slots}
 
 pub returns-in-Some-clause-err : goal.returns-in-Some-clause-err
 returns-in-Some-clause-err g c =

@@ -4,14 +4,11 @@ use lib.IntN.{nat_abs}
 use lib.Signed.{non_neg}
 use Rattle.std.specs.Int.{w128}
 use Rattle.std.proofs.lemmas.Int.{to_z-of_z}
-use Rattle.arrays.specs.Dictionary.{is_code}
-use Rattle.arrays.specs.Number.{natural}
-use Rattle.arrays.specs.Slot.{item_of}
+use Rattle.arrays.specs.Prelude.{is_code, item_of, most_slots, natural}
 use Rattle.arrays.proofs.NumberLemmas.{FitsSigned-from_type}
 use Rattle.select.proofs.NamedLemmas.{cast_fits, cast_is, index_below, row_at}
 use Rattle.select.proofs.RestLemmas.{reported_next}
 use Rattle.select.proofs.indices.IndicesRows.next.Goals as goal
-use Rattle.arrays.specs.Limits.{most_slots}
 
 pub get-index-requires : goal.get-index-requires
 get-index-requires g c =

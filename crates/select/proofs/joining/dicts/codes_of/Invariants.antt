@@ -1,8 +1,7 @@
 use Rattle.std.proofs.Common.{◌≡◌, ◌+◌, ◌++◌, drop, length, take}
 use Rattle.std.specs.Prelude.{All}
-use Rattle.arrays.specs.Kind.{int32}
+use Rattle.arrays.specs.Prelude.{int32, joined_items}
 use Rattle.select.specs.Joined.{IsEncoded, joined_codes, joined_entries}
-use Rattle.arrays.specs.Lengths.{joined_items}
 use Rattle.select.proofs.joining.dicts.codes_of.Given as goal
 
 abbrev pub invariant-loop-view : goal.invariant-loop-view

@@ -1,9 +1,8 @@
 use Rattle.std.proofs.Common.{◌≡◌, ◌++◌, drop}
 use Rattle.std.specs.Prelude.{All}
 use Rattle.arrays.specs.Kind as kind
-use Rattle.arrays.specs.Seen.{Seen}
+use Rattle.arrays.specs.Prelude.{Seen, joined_items}
 use Rattle.select.specs.Joined.{joined_entries}
-use Rattle.arrays.specs.Lengths.{joined_items}
 use Rattle.select.proofs.joining.dicts.entries_of.Given as goal
 
 abbrev pub invariant-loop-view : goal.invariant-loop-view

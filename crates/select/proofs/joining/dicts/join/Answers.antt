@@ -1,12 +1,9 @@
 use Rattle.std.proofs.Common.{◌≡◌, ◌∙◌, ◌+◌, ◌≤◌, ap, arith, length, subst, sym, true}
 use Rattle.std.specs.Prelude.{All}
 use Rattle.std.specs.Arc.{arc_value}
-use Rattle.arrays.specs.Dictionary.{is_code}
+use Rattle.arrays.specs.Prelude.{Seen, is_code, joined_items, shown}
 use Rattle.arrays.specs.Kind as kind
-use Rattle.arrays.specs.Seen.{Seen}
-use Rattle.arrays.specs.Shown.{shown}
 use Rattle.select.specs.Joined.{joined_entries}
-use Rattle.arrays.specs.Lengths.{joined_items}
 use Rattle.select.proofs.JoinedCodes.{codes-within, joined-encoded}
 use Rattle.select.proofs.joining.dicts.join.Goals as goal
 

@@ -1,8 +1,5 @@
 use Rattle.std.proofs.Common.{◌≡◌, ◌∙◌, ◌<◌, arith, length, subst, sym, true}
-use Rattle.arrays.specs.Slot.{item_of}
-use Rattle.arrays.specs.Dictionary.{is_code}
-use Rattle.arrays.specs.Kind.{int32}
-use Rattle.arrays.specs.Number.{IsOfType}
+use Rattle.arrays.specs.Prelude.{IsOfType, int32, is_code, item_of}
 use Rattle.select.specs.Joined.{shifted}
 use Rattle.select.proofs.JoinLemmas.{added-more}
 use Rattle.select.proofs.JoinedCodes.{code-at, encoded-is, shifted-fits}

@@ -1,5 +1,5 @@
 use Rattle.std.proofs.Common.{◌≡◌, ◌++◌, take, map}
-use Rattle.arrays.specs.Kind.{int32}
+use Rattle.arrays.specs.Prelude.{int32}
 use Rattle.select.specs.Joined.{shifted}
 use Rattle.select.proofs.joining.dicts.push_shifted.Given as goal
 

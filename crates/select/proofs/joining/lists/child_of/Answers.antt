@@ -1,9 +1,7 @@
 use Rattle.std.proofs.Common.{◌∙◌, All, Some, ap, length, refl, subst, sym}
 use Rattle.std.proofs.lemmas.Result.{IfOk-weaker}
-use Rattle.arrays.specs.Lengths.{inner_items, is_past, is_too_big}
-use Rattle.arrays.specs.Seen.{Seen}
-use Rattle.select.specs.Children.{IsInner}
-use Rattle.select.specs.Picked.{IsPick, first_rows, picked}
+use Rattle.arrays.specs.Prelude.{Seen, inner_items, is_past, is_too_big}
+use Rattle.select.specs.Prelude.{IsInner, IsPick, first_rows, picked}
 use Rattle.select.proofs.ChosenLemmas.{items-chosen, kind-chosen}
 use Rattle.select.proofs.JoinLemmas.{full-more, or-left, or-right, too_big-list}
 use Rattle.select.proofs.ListLemmas.{all-lists, each-within, full_of_all, picked-each}

@@ -1,8 +1,6 @@
 use Rattle.std.proofs.Common.{◌∙◌, sym}
-use Rattle.arrays.specs.OffsetWidths.{Narrow}
+use Rattle.arrays.specs.Prelude.{Narrow, kind_of, out-Field}
 use Rattle.arrays.specs.Kind as kind
-use Rattle.arrays.specs.Kind.{kind_of}
-use Rattle.arrays.specs.Field.{out-Field}
 use Rattle.select.proofs.ChosenLemmas.{item-is}
 use Rattle.select.proofs.JoinLemmas.{AreChildren-more, item-here, too_big-list, too_big-of_all}
 use Rattle.select.proofs.ListLemmas.{full_of_all}

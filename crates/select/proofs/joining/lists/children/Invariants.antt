@@ -1,6 +1,5 @@
 use Rattle.std.proofs.Common.{take}
-use Rattle.arrays.specs.Kind.{kind_of}
-use Rattle.arrays.specs.Field.{out-Field}
+use Rattle.arrays.specs.Prelude.{kind_of, out-Field}
 use Rattle.select.specs.Children.{AreChildren}
 use Rattle.select.proofs.joining.lists.children.Given as goal
 

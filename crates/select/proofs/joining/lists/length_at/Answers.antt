@@ -1,7 +1,6 @@
 use Rattle.std.proofs.Common.{◌∙◌, Some, ap, length, sym}
 use Rattle.std.proofs.lemmas.Option.{get_or_from_slice_get}
-use Rattle.arrays.specs.Item.{list, list_of, null}
-use Rattle.arrays.specs.Lengths.{list_length}
+use Rattle.arrays.specs.Prelude.{list, list_length, list_of, null}
 use Rattle.arrays.proofs.ListLemmas.{items_of-list_of}
 use Rattle.select.proofs.joining.lists.length_at.Goals as goal
 

@@ -1,7 +1,6 @@
 use Rattle.std.proofs.Common.{◌∙◌, ◌++◌, ap, arith, map, sym}
 use Rattle.std.specs.Prelude.{flat_map}
-use Rattle.arrays.specs.Lengths.{list_length}
-use Rattle.arrays.specs.Seen.{Seen}
+use Rattle.arrays.specs.Prelude.{Seen, list_length}
 use Rattle.select.proofs.JoinLemmas.{lengths-room, lengths_by_column, past-column}
 use Rattle.select.proofs.ListLemmas.{full_of_all}
 use Rattle.select.proofs.joining.lists.lengths.Goals as goal

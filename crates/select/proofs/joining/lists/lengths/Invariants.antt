@@ -1,7 +1,6 @@
 use Rattle.std.proofs.Common.{◌≡◌, ◌++◌, drop, map}
 use Rattle.std.specs.Prelude.{flat_map}
-use Rattle.arrays.specs.Lengths.{joined_items, list_length}
-use Rattle.arrays.specs.Seen.{Seen}
+use Rattle.arrays.specs.Prelude.{Seen, joined_items, list_length}
 use Rattle.select.proofs.joining.lists.lengths.Given as goal
 
 abbrev pub invariant-loop-view : goal.invariant-loop-view

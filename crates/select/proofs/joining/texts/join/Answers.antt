@@ -1,7 +1,5 @@
 use Rattle.std.proofs.Common.{◌∙◌, ◌++◌, List, ap, sym}
-use Rattle.arrays.specs.OffsetSize.{is_full}
-use Rattle.arrays.specs.Item.{Item}
-use Rattle.arrays.specs.Lengths.{text_bytes}
+use Rattle.arrays.specs.Prelude.{Item, is_full, text_bytes}
 use Rattle.select.proofs.BigLemmas.{full_of_build}
 use Rattle.select.proofs.JoinLemmas.{full-texts}
 use Rattle.select.proofs.joining.texts.join.Goals as goal

@@ -29,9 +29,7 @@ use Rattle.std.specs.Prelude.{Option, None, Some}
 use Rattle.std.specs.contracts.impls.GlobalAllocator.TheImpl.{ghosts}
 use Rattle.std.proofs.alloc.Shapes.{after}
 use Rattle.std.proofs.raw_atomic.Walks.{proved}
-use Rattle.selqumar.specs.Boxed.{is_boxed}
-use Rattle.selqumar.specs.Follows.{with_pointee}
-use Rattle.selqumar.specs.Slot.{owned_at}
+use Rattle.selqumar.specs.Prelude.{is_boxed, owned_at, with_pointee}
 use Rattle.selqumar.specs.declared.pointee.Pointee.{Pointee}
 use Rattle.selqumar.specs.declared.slot.Slot.{Slot}
 use Rattle.selqumar.specs.contracts.pointee.Pointee as pointee

@@ -17,8 +17,7 @@ use denote.Triple.Entry.{alive}
 use denote.Triple.Walked.{Stays, stay_dropped, walk_of, Goes-dropped}
 use Rattle.std.specs.Prelude.{Option, None, Some}
 use Rattle.std.proofs.raw_atomic.Walks.{proved_at, leaves}
-use Rattle.selqumar.specs.Boxed.{is_boxed}
-use Rattle.selqumar.specs.Slot.{owned_at}
+use Rattle.selqumar.specs.Prelude.{is_boxed, owned_at}
 use Rattle.selqumar.specs.declared.pointee.Pointee.{Pointee}
 use Rattle.selqumar.specs.contracts.pointee.Pointee as pointee
 use Rattle.selqumar.specs.contracts.slot.Slot as slot

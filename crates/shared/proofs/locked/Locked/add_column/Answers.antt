@@ -1,13 +1,11 @@
 use Rattle.std.proofs.Common.{◌∙◌, ◌+◌, ap, arith, length, length-append, subst, sym, ◌∷◌, []}
 use Rattle.std.specs.Arc.{arc_value}
-use Rattle.arrays.specs.Shape.{field_of}
+use Rattle.arrays.specs.Prelude.{field_of}
 use Rattle.shared.proofs.BalanceLemmas.{balanced_wider, shows_same, shows_widened}
 use Rattle.shared.proofs.KnownLemmas.{few_added, known_widened}
 use Rattle.shared.proofs.SeenLemmas.{some_each, widened_by}
-use Rattle.shared.specs.Changes.{known_after}
-use Rattle.shared.specs.Known.{IsLegalKnown}
-use Rattle.table.specs.Contents.{Contents}
-use Rattle.table.specs.Stored.{stored_field}
+use Rattle.shared.specs.Prelude.{IsLegalKnown, known_after}
+use Rattle.table.specs.Prelude.{Contents, stored_field}
 use Rattle.shared.proofs.locked.Locked.add_column.Goals as goal
 
 pub see-requires : goal.see-requires

@@ -4,9 +4,7 @@ use Rattle.arrays.specs.Batch.{Batch, rows_of}
 use Rattle.shared.proofs.BalanceLemmas.{balanced_push, shows_same, workers_push}
 use Rattle.shared.proofs.KnownLemmas.{known_added}
 use Rattle.shared.proofs.SeenLemmas.{added, room, seen_added, shown_next, some_each}
-use Rattle.shared.specs.Changes.{known_after}
-use Rattle.shared.specs.Hand.{Hand}
-use Rattle.shared.specs.Known.{IsLegalKnown, Known, known_of}
+use Rattle.shared.specs.Prelude.{Hand, IsLegalKnown, Known, known_after, known_of}
 use Rattle.table.specs.Contents.{Contents}
 use Rattle.shared.proofs.locked.Locked.append.Goals as goal
 

@@ -1,11 +1,9 @@
 use Rattle.std.proofs.Common.{◌∙◌, List, ap, length, subst, sym}
 use Rattle.std.specs.Arc.{arc_value}
-use Rattle.arrays.specs.Shape.{FieldShape}
+use Rattle.arrays.specs.Prelude.{FieldShape}
 use Rattle.shared.proofs.BalanceLemmas.{shows_same}
 use Rattle.shared.proofs.SeenLemmas.{copy_kept, known_joined, shows_joined, some_each}
-use Rattle.shared.specs.Changes.{known_after}
-use Rattle.shared.specs.Balance.{IsBalanced}
-use Rattle.shared.specs.Known.{IsLegalKnown}
+use Rattle.shared.specs.Prelude.{IsBalanced, IsLegalKnown, known_after}
 use Rattle.table.specs.Contents.{Contents}
 use Rattle.shared.proofs.locked.Locked.compact.Goals as goal
 

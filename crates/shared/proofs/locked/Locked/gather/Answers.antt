@@ -1,8 +1,7 @@
 use Rattle.std.proofs.Common.{arith, subst}
 use mathlib.Core.List.{IsPrefix}
 use Rattle.std.specs.Prelude.{All}
-use Rattle.shared.specs.Hand.{IsWorkerOf, HasAllItsPairs}
-use Rattle.shared.specs.Known.{Known, known_of}
+use Rattle.shared.specs.Prelude.{HasAllItsPairs, IsWorkerOf, Known, known_of}
 use Rattle.shared.proofs.KnownLemmas.{opened_first}
 use Rattle.shared.proofs.PartLemmas.{all_whole}
 use Rattle.table.specs.Contents.{Contents}

@@ -1,8 +1,6 @@
 use Rattle.std.proofs.Common.{◌≡◌, ◌∙◌, ap, subst, sym}
 use Rattle.std.specs.Arc.{arc_value}
-use Rattle.shared.specs.Balance.{IsOfWorkers}
-use Rattle.shared.specs.Changes.{known_after}
-use Rattle.shared.specs.Known.{IsLegalKnown, known_of}
+use Rattle.shared.specs.Prelude.{IsLegalKnown, IsOfWorkers, known_after, known_of}
 use Rattle.shared.proofs.KnownLemmas.{reported_begins}
 use Rattle.table.specs.Contents.{Contents}
 use Rattle.shared.proofs.reader.Reader.latest.Goals as goal

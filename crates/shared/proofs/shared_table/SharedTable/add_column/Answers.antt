@@ -1,4 +1,4 @@
-use Rattle.arrays.specs.Shape.{field_of}
+use Rattle.arrays.specs.Prelude.{field_of}
 use Rattle.shared.proofs.SeenLemmas.{ok_all, widened_same}
 use Rattle.table.specs.Stored.{stored_field}
 use Rattle.shared.proofs.shared_table.SharedTable.add_column.Goals as goal

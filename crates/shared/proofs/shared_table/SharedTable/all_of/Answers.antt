@@ -1,7 +1,6 @@
 use Rattle.std.proofs.Common.{◌∙◌, ap, length, subst, sym}
 use Rattle.std.specs.Prelude.{All}
-use Rattle.shared.specs.Hand.{HasAllItsPairs}
-use Rattle.shared.specs.Known.{IsLegalKnown, known_of}
+use Rattle.shared.specs.Prelude.{HasAllItsPairs, IsLegalKnown, known_of}
 use Rattle.shared.proofs.SeenLemmas.{ok_each}
 use Rattle.table.specs.Contents.{Contents}
 use Rattle.shared.proofs.shared_table.SharedTable.all_of.Goals as goal

@@ -1,13 +1,10 @@
 use Rattle.std.proofs.Common.{◌∙◌, List, ap, subst, sym}
 use Rattle.std.specs.Arc.{arc_value}
-use Rattle.arrays.specs.Shape.{FieldShape}
-use Rattle.table.specs.Neighbours.{AreApart, AreGroups}
+use Rattle.arrays.specs.Prelude.{FieldShape}
+use Rattle.table.specs.Prelude.{AreApart, AreGroups, Contents, History}
 use Rattle.table.proofs.GroupLemmas.{groups-apart}
 use Rattle.shared.proofs.SeenLemmas.{known_joined, ok_with, seen_kept}
-use Rattle.shared.specs.Balance.{IsOfWorkers}
-use Rattle.shared.specs.Known.{known_of}
-use Rattle.table.specs.History.{History}
-use Rattle.table.specs.Contents.{Contents}
+use Rattle.shared.specs.Prelude.{IsOfWorkers, known_of}
 use Rattle.shared.proofs.shared_table.SharedTable.compact.Goals as goal
 
 pub returns-clause-kept : goal.returns-clause-kept

@@ -1,8 +1,6 @@
 use Rattle.std.proofs.Common.{◌∙◌, subst, sym}
 use Rattle.std.specs.Prelude.{All}
-use Rattle.shared.specs.Hand.{HasAllItsPairs}
-use Rattle.shared.specs.Known.{known_of}
-use Rattle.shared.specs.Missing.{AllThere}
+use Rattle.shared.specs.Prelude.{AllThere, HasAllItsPairs, known_of}
 use Rattle.std.specs.Arc.{arc_value}
 use Rattle.shared.proofs.shared_table.SharedTable.gather.Goals as goal
 

@@ -1,8 +1,7 @@
 use Rattle.std.proofs.Common.{◌∙◌, ap, subst, sym}
 use Rattle.std.specs.Arc.{arc_value}
-use Rattle.shared.specs.Balance.{IsOfWorkers}
+use Rattle.shared.specs.Prelude.{IsOfWorkers, known_of}
 use Rattle.shared.proofs.SeenLemmas.{ok_each, seen_kept}
-use Rattle.shared.specs.Known.{known_of}
 use Rattle.table.specs.Contents.{Contents}
 use Rattle.shared.proofs.shared_table.SharedTable.snapshot.Goals as goal
 

@@ -1,6 +1,5 @@
 use Rattle.std.proofs.Common.{◌≡◌, ◌∙◌, length, subst, sym}
-use Rattle.shared.specs.Changes.{fields_after, pairs_in}
-use Rattle.shared.specs.Hand.{Hand, calls_of_hand}
+use Rattle.shared.specs.Prelude.{Hand, calls_of_hand, fields_after, pairs_in}
 use Rattle.table.proofs.WidenedLemmas.{length-widened}
 use Rattle.shared.proofs.worker.Worker.calls.Goals as goal
 

@@ -1,10 +1,7 @@
 use Rattle.std.proofs.Common.{◌∙◌, List, [], ap, length, subst, sym}
-use Rattle.shared.specs.Changes.{Change, fields_after, known_after, pairs_in}
-use Rattle.shared.specs.Known.{IsLegalKnown}
-use Rattle.shared.specs.Parts.{InOrder}
+use Rattle.shared.specs.Prelude.{Change, InOrder, IsLegalKnown, fields_after, known_after, pairs_in}
 use Rattle.shared.proofs.KnownLemmas.{legal_none}
-use Rattle.table.specs.History.{of, rows}
-use Rattle.table.specs.Widened.{widened}
+use Rattle.table.specs.Prelude.{of, rows, widened}
 use Rattle.shared.proofs.worker.Worker.new.Goals as goal
 
 pub invariant_of-result : goal.invariant_of-result

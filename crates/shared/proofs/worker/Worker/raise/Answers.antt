@@ -1,8 +1,6 @@
 use Rattle.std.proofs.Common.{◌≡◌, ◌∙◌, ◌++◌, ◌∷◌, [], List, ap, arith, length, length-append, refl, subst, sym}
 use Rattle.arrays.specs.Batch.{rows_of}
-use Rattle.shared.specs.Changes.{Change, known_after, pair_added, pairs_in}
-use Rattle.shared.specs.Hand.{Hand, having_added}
-use Rattle.shared.specs.Known.{IsLegalKnown}
+use Rattle.shared.specs.Prelude.{Change, Hand, IsLegalKnown, having_added, known_after, pair_added, pairs_in}
 use Rattle.shared.proofs.BalanceLemmas.{rows_pushed}
 use Rattle.shared.proofs.KnownLemmas.{pairs_more}
 use Rattle.shared.proofs.ViewLemmas.{added_after, hand_after, order_added}

@@ -1,6 +1,5 @@
 use Rattle.std.proofs.Common.{◌≡◌, ◌∙◌, length, subst, sym}
-use Rattle.shared.specs.Changes.{fields_after, pairs_in}
-use Rattle.shared.specs.Hand.{Hand, rows_of_hand}
+use Rattle.shared.specs.Prelude.{Hand, fields_after, pairs_in, rows_of_hand}
 use Rattle.shared.proofs.BalanceLemmas.{rows_widened}
 use Rattle.shared.proofs.worker.Worker.rows.Goals as goal
 

@@ -1,13 +1,9 @@
 use Rattle.std.proofs.Common.{List, ap, length, subst, sym, ◌∙◌}
-use Rattle.shared.specs.Changes.{Change, fields_after, known_after, pairs_in}
-use Rattle.shared.specs.Hand.{Hand, having_seen}
-use Rattle.shared.specs.Known.{IsBeginning, IsLegalKnown}
-use Rattle.shared.specs.Parts.{InOrder}
+use Rattle.shared.specs.Prelude.{Change, Hand, InOrder, IsBeginning, IsLegalKnown, fields_after, having_seen, known_after, pairs_in}
 use Rattle.shared.proofs.KnownLemmas.{known_begins}
 use Rattle.shared.proofs.PartLemmas.{part_wider}
 use Rattle.shared.proofs.ViewLemmas.{hand_after, seen_after}
-use Rattle.table.specs.History.{of}
-use Rattle.table.specs.Widened.{widened}
+use Rattle.table.specs.Prelude.{of, widened}
 use Rattle.shared.proofs.worker.Worker.see.Goals as goal
 
 pub invariant_of-self : goal.invariant_of-self

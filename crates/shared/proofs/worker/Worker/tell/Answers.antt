@@ -1,7 +1,6 @@
 use Rattle.std.proofs.Common.{◌≡◌, arith, length, subst}
 use mathlib.Core.List.{IsPrefix}
-use Rattle.shared.specs.Changes.{fields_after, pairs_in}
-use Rattle.shared.specs.Hand.{Hand, IsWorkerOf}
+use Rattle.shared.specs.Prelude.{Hand, IsWorkerOf, fields_after, pairs_in}
 use Rattle.shared.proofs.KnownLemmas.{opened_first}
 use Rattle.shared.proofs.ViewLemmas.{own_part}
 use Rattle.table.specs.Widened.{widened}

@@ -2,8 +2,7 @@ use Rattle.std.proofs.Common.{◌≡◌, ◌∙◌, ℕ, List, None, ap, arith, 
 use Rattle.std.specs.declared.alloc.Global.{Global}
 use Rattle.std.specs.declared.vec.Vec.{Vec}
 use Rattle.arrays.specs.Batch.{Batch}
-use Rattle.table.specs.Cause.{early_cause}
-use Rattle.table.specs.Contents.{Contents, admitted}
+use Rattle.table.specs.Prelude.{Contents, admitted, early_cause}
 use Rattle.table.proofs.StorageLemmas.{length-book}
 use Rattle.table.proofs.PutLemmas.{Storage-same, put-storage, put-shows, put-texts, show-same}
 use Rattle.table.proofs.StateLemmas.{ready-few, ready-moved}

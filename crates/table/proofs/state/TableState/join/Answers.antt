@@ -1,5 +1,4 @@
-use Rattle.table.specs.Storage.{batches_of}
-use Rattle.table.specs.Lawful.{rows_of_batches}
+use Rattle.table.specs.Prelude.{batches_of, rows_of_batches}
 use Rattle.table.proofs.JoinedLemmas.{after-commit, compacted-table, texts-begin}
 use Rattle.table.proofs.PutLemmas.{Storage-same}
 use Rattle.table.proofs.state.TableState.join.Goals as goal

@@ -1,11 +1,8 @@
 use Rattle.std.proofs.Common.{◌≡◌, ◌∙◌, ◌++◌, [], ◌∷◌, ℕ, List, ap, subst, sym}
 use Rattle.std.specs.declared.alloc.Global.{Global}
 use Rattle.std.specs.declared.vec.Vec.{Vec}
-use Rattle.arrays.specs.Shape.{field_of}
-use Rattle.table.specs.Storage.{batches_of}
-use Rattle.table.specs.Lawful.{rows_of_batches}
-use Rattle.table.specs.Ready.{BeginWithTexts}
-use Rattle.table.specs.Stored.{stored_field}
+use Rattle.arrays.specs.Prelude.{field_of}
+use Rattle.table.specs.Prelude.{BeginWithTexts, batches_of, rows_of_batches, stored_field}
 use Rattle.table.proofs.JoinedLemmas.{texts-begin}
 use Rattle.table.proofs.WiderLemmas.{added-storage}
 use Rattle.table.proofs.state.TableState.widen.Goals as goal

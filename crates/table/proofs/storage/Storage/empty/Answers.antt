@@ -2,8 +2,8 @@ use Rattle.std.proofs.Common.{◌∙◌, List, [], ap, refl, subst, sym}
 use Rattle.std.specs.Arc.{arc_value}
 use Rattle.std.specs.declared.alloc.Global.{Global}
 use Rattle.std.specs.declared.vec.Vec.{Vec}
-use Rattle.arrays.specs.Shape.{FieldShape}
-use Rattle.answers.specs.ColumnStats.{ColumnStats}
+use Rattle.arrays.specs.Prelude.{FieldShape}
+use Rattle.answers.specs.Prelude.{ColumnStats}
 use Rattle.table.specs.Lawful.{dictionaries_of}
 use Rattle.compaction.specs.Statistics.{AreStatsOf}
 use Rattle.table.proofs.EmptyLemmas.{storage-empty}

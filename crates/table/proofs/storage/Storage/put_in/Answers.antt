@@ -6,7 +6,7 @@ use Rattle.std.proofs.lemmas.List.{map-append}
 use Rattle.std.specs.declared.vec.Vec.{Vec}
 use Rattle.arrays.specs.Batch.{Batch}
 use Rattle.compaction.specs.Under.{pieces_of}
-use Rattle.answers.specs.ColumnStats.{ColumnStats}
+use Rattle.answers.specs.Prelude.{ColumnStats}
 use Rattle.table.proofs.MovedLemmas.{put-last}
 use Rattle.table.proofs.storage.Storage.put_in.Goals as goal
 

@@ -6,7 +6,7 @@ use Rattle.table.specs.declared.storage.Storage.{Storage}
 use Rattle.std.specs.declared.alloc.Global.{Global}
 use Rattle.std.specs.declared.vec.Vec.{Vec}
 use Rattle.std.proofs.lemmas.Simd.{map-map}
-use Rattle.answers.specs.ColumnStats.{ColumnStats}
+use Rattle.answers.specs.Prelude.{ColumnStats}
 use Rattle.table.proofs.storage.Storage.share.Goals as goal
 
 pub returns : goal.returns

@@ -4,15 +4,11 @@ use Rattle.std.specs.declared.alloc.Global.{Global}
 use Rattle.std.specs.declared.sync.Arc.{Arc}
 use Rattle.std.specs.declared.vec.Vec.{Vec}
 use Rattle.std.proofs.lemmas.List.{length-map, map-append}
-use Rattle.arrays.specs.Batch.{Batch, rows_of}
-use Rattle.arrays.specs.Kind.{Kind, kind_of}
-use Rattle.arrays.specs.Seen.{Seen}
-use Rattle.arrays.specs.Shape.{FieldShape, field_of, kind_of_field}
+use Rattle.arrays.specs.Prelude.{Batch, FieldShape, Kind, Seen, field_of, kind_of, kind_of_field, rows_of}
 use Rattle.compaction.specs.Under.{pieces_of}
-use Rattle.answers.specs.ColumnStats.{ColumnStats}
+use Rattle.answers.specs.Prelude.{ColumnStats}
 use Rattle.arrays.proofs.ShapeLemmas.{kind_of_field-field_of}
-use Rattle.table.specs.Storage.{batches_of, dictionaries_in, pieces_in}
-use Rattle.table.specs.Widening.{AreAllWider, AreWider, no_texts, with_nulls}
+use Rattle.table.specs.Prelude.{AreAllWider, AreWider, batches_of, dictionaries_in, no_texts, pieces_in, with_nulls}
 use Rattle.table.proofs.StorageLemmas.{length-pieces}
 use Rattle.table.proofs.storage.Storage.wider.Goals as goal
 

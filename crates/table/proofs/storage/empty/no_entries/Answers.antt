@@ -2,8 +2,7 @@ use Rattle.std.proofs.Common.{◌≡◌, ◌∙◌, ◌+◌, ◌++◌, [], ◌�
 use Rattle.std.specs.Arc.{arc_value}
 use Rattle.std.proofs.lemmas.List.{map-append}
 use Rattle.arrays.specs.Kind as kind
-use Rattle.arrays.specs.Kind.{kind_of, same_kind}
-use Rattle.arrays.specs.Shape.{field_of, fields_of}
+use Rattle.arrays.specs.Prelude.{field_of, fields_of, kind_of, same_kind}
 use Rattle.arrays.proofs.ShapeLemmas.{kind_of_field-field_of}
 use Rattle.table.specs.Lawful.{dictionaries_of}
 use Rattle.table.proofs.EmptyLemmas.{entries-more, fields-more}

@@ -1,6 +1,6 @@
 use Rattle.std.proofs.Common.{◌≡◌, [], map, option_map, take}
 use Rattle.std.specs.Arc.{arc_value}
-use Rattle.arrays.specs.Shape.{fields_of}
+use Rattle.arrays.specs.Prelude.{fields_of}
 use Rattle.table.specs.Lawful.{dictionaries_of}
 use Rattle.table.proofs.storage.empty.no_entries.Given as goal
 

@@ -1,8 +1,7 @@
 use Rattle.std.proofs.Common.{◌+◌, ◌∙◌, [], arith, subst, sym, take}
-use Rattle.arrays.specs.Shape.{field_of, fields_of}
-use Rattle.arrays.specs.Kind.{Kind}
+use Rattle.arrays.specs.Prelude.{Kind, field_of, fields_of}
 use Rattle.arrays.proofs.ShapeLemmas.{kind_of_field-field_of}
-use Rattle.answers.specs.Summary.{AreStats}
+use Rattle.answers.specs.Prelude.{AreStats}
 use Rattle.table.proofs.EmptyLemmas.{fields-more, stats-more}
 use Rattle.table.proofs.storage.empty.no_stats.Goals as goal
 

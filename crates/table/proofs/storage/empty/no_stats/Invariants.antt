@@ -1,5 +1,5 @@
 use Rattle.std.proofs.Common.{[], take}
-use Rattle.arrays.specs.Shape.{fields_of}
+use Rattle.arrays.specs.Prelude.{fields_of}
 use Rattle.compaction.specs.Statistics.{AreStatsOf}
 use Rattle.table.proofs.storage.empty.no_stats.Given as goal
 

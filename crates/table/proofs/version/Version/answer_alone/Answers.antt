@@ -1,9 +1,8 @@
 use Rattle.std.proofs.Common.{map}
 use Rattle.std.proofs.lemmas.List.Elements.{All-map}
 use Rattle.std.specs.Arc.{arc_value}
-use Rattle.answers.specs.QueryShape.{query_shape}
-use Rattle.table.specs.History.{rows}
-use Rattle.table.specs.Lawful.{IsStored}
+use Rattle.answers.specs.Prelude.{query_shape}
+use Rattle.table.specs.Prelude.{IsStored, rows}
 use Rattle.table.proofs.AnswerLemmas.{answers_table, fits_each, refuses_table, same_types}
 use Rattle.table.proofs.version.Version.answer_alone.Goals as goal
 

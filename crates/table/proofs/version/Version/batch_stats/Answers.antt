@@ -4,7 +4,7 @@ use Rattle.std.specs.Prelude.{slice_get, vec_len}
 use Rattle.std.specs.declared.alloc.Global.{Global}
 use Rattle.std.specs.declared.vec.Vec.{Vec}
 use Rattle.std.proofs.lemmas.Option.{slice_get-get_or, slice_get_read}
-use Rattle.answers.specs.ColumnStats.{ColumnStats}
+use Rattle.answers.specs.Prelude.{ColumnStats}
 use Rattle.table.specs.Contents.{Contents}
 use Rattle.table.proofs.StorageLemmas.{length-pieces, length-stats, piece-at, stats-at}
 use Rattle.table.proofs.version.Version.batch_stats.Goals as goal

@@ -5,14 +5,9 @@ use Rattle.std.specs.List.{AllZip}
 use Rattle.std.specs.Arc.{arc_value}
 use Rattle.std.specs.declared.alloc.Global.{Global}
 use Rattle.std.specs.declared.sync.Arc.{Arc}
-use Rattle.arrays.specs.Batch.{Batch, rows_of}
-use Rattle.arrays.specs.Seen.{Seen}
-use Rattle.arrays.specs.Shape.{FieldShape}
-use Rattle.table.specs.Contents.{Contents}
-use Rattle.table.specs.Storage.{batches_of, book_of, dictionaries_in}
-use Rattle.table.specs.History.{book, rows}
+use Rattle.arrays.specs.Prelude.{Batch, FieldShape, Seen, rows_of}
+use Rattle.table.specs.Prelude.{Contents, EndsWithEntry, IsStored, NamesFronts, batches_of, book, book_of, dictionaries_in, dictionaries_of, rows, rows_of_batches}
 use Rattle.compaction.specs.Under.{NamesFront}
-use Rattle.table.specs.Lawful.{EndsWithEntry, IsStored, NamesFronts, dictionaries_of, rows_of_batches}
 use Rattle.table.proofs.StorageLemmas.{all-of-map, book-shown, count-shown, rows-shown}
 use Rattle.table.proofs.version.Version.batches.Goals as goal
 

@@ -1,7 +1,6 @@
 use Rattle.std.proofs.Common.{◌∙◌, ℕ, List, ap, arith, length, sym}
 use Rattle.std.specs.Prelude.{slice_get}
-use Rattle.table.specs.Contents.{Contents}
-use Rattle.table.specs.History.{book}
+use Rattle.table.specs.Prelude.{Contents, book}
 use Rattle.table.proofs.StorageLemmas.{book-shown, length-book}
 use Rattle.table.proofs.version.Version.book_at.Goals as goal
 

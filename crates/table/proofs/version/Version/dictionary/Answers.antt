@@ -4,10 +4,8 @@ use Rattle.std.specs.Prelude.{slice_get}
 use Rattle.std.specs.declared.alloc.Global.{Global}
 use Rattle.std.specs.declared.sync.Arc.{Arc}
 use Rattle.std.proofs.lemmas.Option.{slice_get_read}
-use Rattle.arrays.specs.Seen.{Seen}
-use Rattle.table.specs.Contents.{Contents}
-use Rattle.table.specs.History.{rows}
-use Rattle.table.specs.Lawful.{dictionaries_of}
+use Rattle.arrays.specs.Prelude.{Seen}
+use Rattle.table.specs.Prelude.{Contents, dictionaries_of, rows}
 use Rattle.table.proofs.StorageLemmas.{dictionary-at, length-dictionaries}
 use Rattle.table.proofs.version.Version.dictionary.Goals as goal
 

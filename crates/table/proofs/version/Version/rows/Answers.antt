@@ -1,6 +1,5 @@
 use Rattle.std.proofs.Common.{◌∙◌, ap, length}
-use Rattle.table.specs.Contents.{Contents}
-use Rattle.table.specs.History.{rows}
+use Rattle.table.specs.Prelude.{Contents, rows}
 use Rattle.table.proofs.StorageLemmas.{count-shown}
 use Rattle.table.proofs.version.Version.rows.Goals as goal
 

@@ -4,14 +4,9 @@ use Rattle.std.specs.Prelude.{slice_get, vec_len}
 use Rattle.std.specs.declared.alloc.Global.{Global}
 use Rattle.std.specs.declared.vec.Vec.{Vec}
 use Rattle.std.proofs.lemmas.Option.{slice_get_read}
-use Rattle.arrays.specs.Shape.{kind_of_field}
-use Rattle.answers.specs.Summary.{AreStats}
-use Rattle.answers.specs.ColumnStats.{ColumnStats}
-use Rattle.table.specs.Contents.{Contents}
-use Rattle.table.specs.Storage.{batches_of}
-use Rattle.arrays.specs.Batch.{Table, column}
-use Rattle.table.specs.History.{rows}
-use Rattle.table.specs.Lawful.{rows_of_batches}
+use Rattle.arrays.specs.Prelude.{Table, column, kind_of_field}
+use Rattle.answers.specs.Prelude.{AreStats, ColumnStats}
+use Rattle.table.specs.Prelude.{Contents, batches_of, rows, rows_of_batches}
 use Rattle.table.proofs.StorageLemmas.{length-stats, rows-shown, stats-at}
 use Rattle.table.proofs.version.Version.stats.Goals as goal
 

@@ -1,9 +1,7 @@
 use Rattle.std.proofs.Common.{◌∙◌, ap, map, refl, replicate, sym}
-use Rattle.arrays.specs.Item.{null}
+use Rattle.arrays.specs.Prelude.{null}
 use Rattle.evaluate.specs.Aggs as agg
-use Rattle.tallies.specs.Columns.{show_column, show_item, show_number, show_total}
-use Rattle.tallies.specs.Ends.{agg_at}
-use Rattle.tallies.specs.Tallies.{counted}
+use Rattle.tallies.specs.Prelude.{agg_at, counted, show_column, show_item, show_number, show_total}
 use Rattle.tallies.proofs.ColumnLemmas.{column_added, column_room, items_added, same_end, seen_at_end, seen_items, seen_rows, shape}
 use Rattle.tallies.proofs.column.TallyColumn.add.Goals as goal
 

@@ -1,7 +1,6 @@
 use Rattle.std.proofs.Common.{◌≡◌, ◌∙◌, [], List, OnOk, ap, length, map, subst, sym}
 use Rattle.arrays.specs.Batch.{Row, row_of}
-use Rattle.tallies.specs.Columns.{ColumnShape, column_of, show_column}
-use Rattle.tallies.specs.Spread.{padded, spread}
+use Rattle.tallies.specs.Prelude.{ColumnShape, column_of, padded, show_column, spread}
 use Rattle.tallies.proofs.ColumnLemmas.{padded_short, shape_padded}
 use Rattle.tallies.proofs.column.TallyColumn.extend.Goals as goal
 

@@ -1,8 +1,6 @@
 use Rattle.std.proofs.Common.{◌∙◌, None, ap, refl}
 use Rattle.evaluate.specs.Aggs as agg
-use Rattle.tallies.specs.Columns.{show_column, show_item, show_number, show_total}
-use Rattle.tallies.specs.Ends.{agg_at}
-use Rattle.tallies.specs.Tallies.{bettered, counted}
+use Rattle.tallies.specs.Prelude.{agg_at, bettered, counted, show_column, show_item, show_number, show_total}
 use Rattle.tallies.proofs.ColumnLemmas.{column_grown, none_end}
 use Rattle.tallies.proofs.TallyLemmas.{no_numbers}
 use Rattle.tallies.proofs.column.TallyColumn.grow.Goals as goal

@@ -1,7 +1,6 @@
 use Rattle.std.proofs.Common.{ap, map, refl}
 use Rattle.evaluate.specs.Aggs as agg
-use Rattle.tallies.specs.Columns.{show_column}
-use Rattle.tallies.specs.Tallies.{counted}
+use Rattle.tallies.specs.Prelude.{counted, show_column}
 use Rattle.tallies.proofs.MergedLemmas.{cells_few, cells_merged}
 use Rattle.tallies.proofs.column.TallyColumn.merge_counts.Goals as goal
 

@@ -1,6 +1,5 @@
 use Rattle.std.proofs.Common.{◌∙◌, ap, map, sym}
-use Rattle.tallies.specs.Columns.{show_column, show_item, show_number}
-use Rattle.tallies.specs.Ends.{agg_at}
+use Rattle.tallies.specs.Prelude.{agg_at, show_column, show_item, show_number}
 use Rattle.tallies.proofs.ColumnLemmas.{shape}
 use Rattle.tallies.proofs.MergedLemmas.{cells_merged, items_merged, merged_at}
 use Rattle.tallies.proofs.column.TallyColumn.merge_items.Goals as goal

@@ -1,7 +1,5 @@
 use Rattle.std.proofs.Common.{◌≡◌, ◌∙◌, OnOk, ap, map, subst}
-use Rattle.tallies.specs.Columns.{show_column, show_item, show_number}
-use Rattle.tallies.specs.Ends.{agg_at}
-use Rattle.tallies.specs.Merging.{merge_all}
+use Rattle.tallies.specs.Prelude.{agg_at, merge_all, show_column, show_item, show_number}
 use Rattle.tallies.proofs.MergedLemmas.{cells_few, cells_merged, items_merged, merged_at}
 use Rattle.tallies.proofs.column.TallyColumn.merge_numbers.Goals as goal
 

@@ -1,9 +1,8 @@
 use Rattle.std.proofs.Common.{◌∙◌, ◌++◌, ◌∷◌, [], FitsSigned, ap, arith, refl, sym}
 use Rattle.std.specs.Int.{w128}
 use Rattle.std.proofs.lemmas.Int.{ints, to_z-of_z}
-use Rattle.arrays.specs.Item.{int}
-use Rattle.tallies.specs.Ends.{agg_at, number_if_any, with_item}
-use Rattle.tallies.specs.Tallies.{tally_of}
+use Rattle.arrays.specs.Prelude.{int}
+use Rattle.tallies.specs.Prelude.{agg_at, number_if_any, tally_of, with_item}
 use Rattle.tallies.proofs.ColumnLemmas.{number_slot}
 use Rattle.tallies.proofs.TallyLemmas.{item_bettered}
 use Rattle.tallies.proofs.source.CandidatesSourceBestNumber.with_row.Goals as goal

@@ -1,9 +1,8 @@
 use Rattle.std.proofs.Common.{◌∙◌, ◌++◌, ◌∷◌, ◌+ℤ◌, [], FitsSigned, ap, arith, refl, sym}
 use Rattle.std.specs.Int.{w128}
 use Rattle.std.proofs.lemmas.Int.{ints, to_z-of_z}
-use Rattle.evaluate.specs.Aggs.{Sum}
-use Rattle.tallies.specs.Columns.{show_total}
-use Rattle.tallies.specs.Tallies.{tally_of}
+use Rattle.evaluate.specs.Prelude.{Sum}
+use Rattle.tallies.specs.Prelude.{show_total, tally_of}
 use Rattle.tallies.proofs.ColumnLemmas.{number_slot}
 use Rattle.tallies.proofs.TallyLemmas.{null_unsummed, number_summed}
 use Rattle.tallies.proofs.source.IntsSourceTotal.with_row.Goals as goal

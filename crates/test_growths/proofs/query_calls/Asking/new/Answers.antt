@@ -1,7 +1,5 @@
 use Rattle.std.proofs.Common.{◌∙◌, ap, sym}
-use Rattle.selqumar_core.specs.QueryShape.{query_shape}
-use Rattle.selqumar_core.specs.FirstFault.{fits}
-use Rattle.selqumar_core.specs.Contents.{Contents}
+use Rattle.selqumar_core.specs.Prelude.{Contents, fits, query_shape}
 use Rattle.test_growths.proofs.query_calls.Asking.new.Goals as goal
 
 pub invariant_of-result : goal.invariant_of-result

@@ -1,9 +1,7 @@
 use Rattle.std.proofs.Common.{◌∙◌, ap}
 use Rattle.std.proofs.lemmas.Result.{IfOk-weaker}
 use Rattle.types.specs.Kind as kind
-use Rattle.arrays.specs.Column.{SizedColumn}
-use Rattle.arrays.specs.Lengths.{cut}
-use Rattle.arrays.specs.Shown.{shown}
+use Rattle.arrays.specs.Prelude.{SizedColumn, cut, shown}
 use Rattle.arrays.proofs.LaidLemmas.{shown-lists}
 use Rattle.arrays.proofs.builder.lists.ListBuilder.finish.Goals as goal
 

@@ -1,7 +1,6 @@
 use Rattle.std.proofs.Common.{ap, arith, inr, refl}
 use Rattle.std.proofs.lemmas.Result.{err_from_is_err_and}
-use Rattle.arrays.specs.Column.{SizedColumn}
-use Rattle.arrays.specs.Lengths.{total}
+use Rattle.arrays.specs.Prelude.{SizedColumn, total}
 use Rattle.arrays.proofs.SizeLemmas.{small}
 use Rattle.arrays.proofs.LaidLemmas.{within-push}
 use Rattle.arrays.proofs.builder.lists.ListBuilder.push.Goals as goal

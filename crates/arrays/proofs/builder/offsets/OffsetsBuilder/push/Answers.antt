@@ -1,7 +1,6 @@
 use Rattle.std.proofs.Common.{◌∷◌, ◌++◌, ◌+◌, ◌≤◌, [], ap, arith, length, subst, sym}
 use Rattle.types.specs.OffsetSize.{most_of}
-use Rattle.arrays.specs.Column.{SizedColumn}
-use Rattle.arrays.specs.Lengths.{total}
+use Rattle.arrays.specs.Prelude.{SizedColumn, total}
 use Rattle.arrays.proofs.LaidLemmas.{end-counted, grown, length-lengths_where}
 use Rattle.arrays.proofs.builder.offsets.OffsetsBuilder.push.Goals as goal
 

@@ -1,9 +1,7 @@
 use Rattle.std.proofs.Common.{◌∙◌, ◌++◌, ◌-◌, ◌≤◌, ap, arith, drop, length, subst, sym, take}
 use Rattle.types.specs.OffsetSize.{most_of}
 use Rattle.layout.specs.Offsets.{AreBytesOf}
-use Rattle.arrays.specs.Column.{SizedColumn}
-use Rattle.arrays.specs.Growing.{AreFresh, lengths_by}
-use Rattle.arrays.specs.Lengths.{total}
+use Rattle.arrays.specs.Prelude.{AreFresh, SizedColumn, lengths_by, total}
 use Rattle.arrays.proofs.ExtendedLemmas.{joined}
 use Rattle.arrays.proofs.LaidLemmas.{length-lengths_where}
 use Rattle.arrays.proofs.builder.offsets.OffsetsBuilder.push_bytes.Goals as goal

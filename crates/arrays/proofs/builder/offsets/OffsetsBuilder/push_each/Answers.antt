@@ -2,8 +2,7 @@ use Rattle.std.proofs.Common.{◌≡◌, ◌∙◌, ◌+◌, ◌-◌, ◌∷◌,
 use Rattle.std.proofs.lemmas.List.{append_assoc}
 use Rattle.types.specs.OffsetSize.{most_of}
 use Rattle.layout.specs.Offsets.{length_of, start_of}
-use Rattle.arrays.specs.Growing.{lengths_by}
-use Rattle.arrays.specs.Lengths.{total}
+use Rattle.arrays.specs.Prelude.{lengths_by, total}
 use Rattle.arrays.proofs.ExtendedLemmas.{length-lengths_by, lengths-fit, lengths_by-more}
 use Rattle.arrays.proofs.builder.offsets.OffsetsBuilder.push_each.Goals as goal
 

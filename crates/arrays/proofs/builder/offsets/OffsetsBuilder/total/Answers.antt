@@ -1,6 +1,5 @@
 use Rattle.std.proofs.Common.{◌∙◌, ap, sym}
-use Rattle.arrays.specs.Column.{SizedColumn}
-use Rattle.arrays.specs.Lengths.{total}
+use Rattle.arrays.specs.Prelude.{SizedColumn, total}
 use Rattle.arrays.proofs.LaidLemmas.{total-fresh}
 use Rattle.arrays.proofs.builder.offsets.OffsetsBuilder.total.Goals as goal
 

@@ -1,6 +1,5 @@
 use Rattle.std.proofs.Common.{◌∙◌, ◌++◌, ap, pos}
-use Rattle.types.specs.Number.{bytes_of_number}
-use Rattle.types.specs.OffsetSize.{offset_type}
+use Rattle.types.specs.Prelude.{bytes_of_number, offset_type}
 use Rattle.arrays.proofs.LaidLemmas.{fresh-none, lengths-none}
 use Rattle.arrays.proofs.builder.offsets.OffsetsBuilder.with_capacity.Goals as goal
 

@@ -1,9 +1,7 @@
 use Rattle.std.proofs.Common.{◌∙◌, ◌+◌, ◌∷◌, ◌++◌, [], ap, refl, arith, length, length-append, sym}
 use Rattle.std.specs.Option.{option_copied}
 use Rattle.types.specs.OffsetSize.{is_full}
-use Rattle.arrays.specs.Lengths.{text_bytes}
-use Rattle.arrays.specs.Slot.{item_of_text}
-use Rattle.arrays.specs.Values.{text_items}
+use Rattle.arrays.specs.Prelude.{item_of_text, text_bytes, text_items}
 use Rattle.arrays.proofs.ExtendedLemmas.{front_full, full_of_all, items_more, length-text_items}
 use Rattle.arrays.proofs.builder.texts.TextBuilder.extended_by_slots.Goals as goal
 

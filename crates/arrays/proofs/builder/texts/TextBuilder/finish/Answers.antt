@@ -1,10 +1,7 @@
 use Rattle.std.proofs.Common.{◌∙◌, ap, subst, sym}
 use Rattle.std.proofs.lemmas.Result.{IfOk-weaker}
-use Rattle.arrays.specs.Column.{TextColumn}
-use Rattle.arrays.specs.Growing.{cut_texts}
+use Rattle.arrays.specs.Prelude.{AreTexts, TextColumn, cut_texts, shown}
 use Rattle.types.specs.Kind as kind
-use Rattle.arrays.specs.FromParts.{AreTexts}
-use Rattle.arrays.specs.Shown.{shown}
 use Rattle.arrays.proofs.LaidLemmas.{shown-texts, texts-laid}
 use Rattle.arrays.proofs.builder.texts.TextBuilder.finish.Goals as goal
 

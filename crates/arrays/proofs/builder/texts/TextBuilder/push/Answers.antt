@@ -3,10 +3,7 @@ use Rattle.std.proofs.lemmas.Result.{err_from_is_err_and}
 use Rattle.std.specs.Option.{option_copied}
 use Rattle.types.specs.OffsetSize.{is_full}
 use Rattle.layout.specs.Item.{null}
-use Rattle.arrays.specs.Column.{TextColumn}
-use Rattle.arrays.specs.Growing.{cut_texts}
-use Rattle.arrays.specs.Lengths.{text_bytes}
-use Rattle.arrays.specs.Slot.{item_of_text}
+use Rattle.arrays.specs.Prelude.{TextColumn, cut_texts, item_of_text, text_bytes}
 use Rattle.arrays.proofs.CutLemmas.{bytes_more, length-texts, null_more}
 use Rattle.arrays.proofs.builder.texts.TextBuilder.push.Goals as goal
 

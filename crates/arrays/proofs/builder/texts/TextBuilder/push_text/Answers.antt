@@ -2,9 +2,7 @@ use Rattle.std.proofs.Common.{◌≡◌, ◌∙◌, ◌++◌, ◌+◌, Some, ap,
 use Rattle.std.proofs.lemmas.Result.{err_from_is_err_and}
 use Rattle.types.specs.OffsetSize.{is_full}
 use Rattle.layout.specs.Item.{text}
-use Rattle.arrays.specs.Column.{TextColumn}
-use Rattle.arrays.specs.Growing.{cut_texts}
-use Rattle.arrays.specs.Lengths.{text_bytes}
+use Rattle.arrays.specs.Prelude.{TextColumn, cut_texts, text_bytes}
 use Rattle.arrays.proofs.CutLemmas.{bytes_more, length-texts, text_more}
 use Rattle.arrays.proofs.builder.texts.TextBuilder.push_text.Goals as goal
 

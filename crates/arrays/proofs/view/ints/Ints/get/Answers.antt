@@ -1,8 +1,7 @@
 use Rattle.std.proofs.Common.{◌∙◌, FitsSigned, None, Some, ap, cond, rules, sym}
 use Rattle.std.specs.Int.{w128}
 use Rattle.std.proofs.lemmas.Int.{to_z-of_z}
-use Rattle.layout.specs.Item.{int}
-use Rattle.layout.specs.Seen.{valid_in}
+use Rattle.layout.specs.Prelude.{int, valid_in}
 use Rattle.types.specs.Number.{number_at}
 use Rattle.arrays.specs.Slot.{item_of}
 use Rattle.arrays.proofs.SlotLemmas.{item_if, items-slot}

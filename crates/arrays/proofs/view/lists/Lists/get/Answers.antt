@@ -1,7 +1,6 @@
 use Rattle.std.proofs.Common.{◌∙◌, ◌+◌, ◌-◌, ap, cond, sym}
 use Rattle.colbits.specs.Slice.{slice}
-use Rattle.layout.specs.Item.{list, list_of, null}
-use Rattle.layout.specs.Offsets.{length_of, of_slot, start_of}
+use Rattle.layout.specs.Prelude.{length_of, list, list_of, null, of_slot, start_of}
 use Rattle.arrays.proofs.SlotLemmas.{items-slot}
 use Rattle.arrays.proofs.view.lists.Lists.get.Goals as goal
 

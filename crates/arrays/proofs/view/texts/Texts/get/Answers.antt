@@ -1,7 +1,6 @@
 use Rattle.std.proofs.Common.{◌∙◌, IsUtf8, ap, cond, subst, sym}
 use Rattle.std.proofs.lemmas.Str.{IsUtf8-from_is_utf8}
-use Rattle.layout.specs.Item.{null, text}
-use Rattle.layout.specs.Offsets.{of_slot}
+use Rattle.layout.specs.Prelude.{null, of_slot, text}
 use Rattle.arrays.proofs.SlotLemmas.{items-slot}
 use Rattle.arrays.proofs.view.texts.Texts.get.Goals as goal
 

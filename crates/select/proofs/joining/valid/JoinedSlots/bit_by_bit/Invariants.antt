@@ -1,5 +1,5 @@
 use Rattle.std.proofs.Common.{◌≡◌, ◌+◌, ◌&&◌, ℕ, false, nat_lt, get_or}
-use Rattle.arrays.specs.Bit.{bit_in}
+use Rattle.arrays.specs.Prelude.{bit_in}
 use Rattle.select.specs.Joined.{joined_valid}
 use Rattle.select.proofs.joining.valid.JoinedSlots.bit_by_bit.Given as goal
 

@@ -1,5 +1,5 @@
 use Rattle.std.proofs.Common.{◌∙◌, ap, sym}
-use Rattle.arrays.specs.Seen.{Seen, valid_at}
+use Rattle.arrays.specs.Prelude.{Seen, valid_at}
 use Rattle.select.proofs.JoinedNumbers.{valid-place}
 use Rattle.select.proofs.joining.valid.JoinedSlotsPlaces.at.Goals as goal
 

@@ -1,5 +1,5 @@
 use Rattle.std.proofs.Common.{◌∙◌, ◌+◌, ap, arith, length, sym}
-use Rattle.arrays.specs.Seen.{Seen, valid_in}
+use Rattle.arrays.specs.Prelude.{Seen, valid_in}
 use Rattle.select.proofs.JoinedNumbers.{place-behind, valid-place}
 use Rattle.select.proofs.joining.valid.JoinedSlotsPlaces.word.Goals as goal
 
