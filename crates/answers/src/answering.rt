@@ -14,7 +14,7 @@ use crate::piece::{look_at_one, look_at_pieces};
 use crate::scan::Scan;
 use crate::telling::{tell_groups, tell_in_turn};
 use arrays::RecordBatch;
-use crews::{Alone, Gate};
+use crews::Gate;
 use query::{Query, QueryFault};
 use std::alloc::Global;
 use std::sync::Arc;
@@ -51,7 +51,8 @@ pub fn answer<T: Threads + Sync, G: Gate>(
         (query_shape query.now) (all_rows (map arc_value batches.now))) }
 {
     if pieces == 1 {
-        return answer_alone(alloc, batches, query, gate);
+        gate.pass(0, 0);
+        return answer_alone(alloc, batches, query);
     }
     let rows = count_all(batches, query);
     let common = common_texts(alloc, batches, query)?;
@@ -69,15 +70,24 @@ pub fn answer<T: Threads + Sync, G: Gate>(
     Ok(Answer { groups })
 }
 
+/// The gate of one piece alone: there is nobody to wait for, or to give a turn to.
+#[derive(Drop)]
+struct Alone;
+
+impl Gate for Alone {
+    fn pass(&self, _place: u32, _call: u32) {}
+
+    fn turn(&self) {}
+}
+
 /// The same in one piece, for whoever may start no thread: nothing that is called here starts one or gives others a turn.
 ///
 /// # Errors
 /// As `answer`.
-pub fn answer_alone<G: Gate>(
+pub fn answer_alone(
     alloc: Global,
     batches: &[Arc<RecordBatch>],
     query: &Query,
-    gate: &G,
 ) -> Result<Answer, QueryFault>
     requires types { All (λ (b : Batch). map kind_of_field b.fields ≡ map kind_of_field (first_fields (map arc_value batches.now)))
         (map arc_value batches.now) }
@@ -91,14 +101,13 @@ pub fn answer_alone<G: Gate>(
     let rows = count_all(batches, query);
     let common = common_texts(alloc, batches, query)?;
     let cuts = Cuts { rows, pieces: 1 };
-    let gate = Alone(gate);
     let scan = Scan {
         alloc,
         batches,
         query,
         common: &common,
         cuts,
-        gate: &gate,
+        gate: &Alone,
     };
     let whole = look_at_one(&scan, 0)?;
     let groups = tell_in_turn(alloc, &whole, 0, whole.keys.len())?;

@@ -20,15 +20,3 @@ pub struct OpenGate;
 impl Gate for OpenGate {
     fn pass(&self, _place: u32, _call: u32) {}
 }
-
-/// The gate of one value alone: it passes another one, and has nobody to give a turn to.
-#[derive(Drop)]
-pub struct Alone<'g, G: Gate>(pub &'g G);
-
-impl<'g, G: Gate> Gate for Alone<'g, G> {
-    fn pass(&self, place: u32, call: u32) {
-        self.0.pass(place, call);
-    }
-
-    fn turn(&self) {}
-}

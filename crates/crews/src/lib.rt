@@ -5,6 +5,6 @@ pub mod gate;
 pub mod running;
 pub mod task;
 
-pub use gate::{Alone, Gate, OpenGate};
+pub use gate::{Gate, OpenGate};
 pub use running::run_all;
 pub use task::Task;

@@ -8,18 +8,7 @@ ghost use Rattle.reports.specs.QueryFaults.{IsUnanswered, IsUnplaced};
 use crate::forms::group_lines;
 use crate::run_fault::RunFault;
 use std::alloc::Global;
-use table::{Answer, Gate, Query, QueryText, Version, resolve};
-
-/// The gate of the one who answers alone. No piece waits at it, and nobody else could have a turn: a library for C links nothing that gives
-/// one, as `OpenGate` does.
-#[derive(Drop)]
-struct NobodyWaits;
-
-impl Gate for NobodyWaits {
-    fn pass(&self, _place: u32, _call: u32) {}
-
-    fn turn(&self) {}
-}
+use table::{Answer, Query, QueryText, Version, resolve};
 
 /// What `query` prints for a version of the table, whose rows are looked at in one piece and without a thread.
 pub fn groups_text(alloc: Global, query: &QueryText, version: &Version) -> Result<String, RunFault>
@@ -37,7 +26,7 @@ pub fn placed_groups(alloc: Global, query: &Query, version: &Version) -> Result<
     ensures ok { IfOk result (IsAnswer version.now.fields (query_shape query.now) (rows version.now.history)) }
     ensures err { IfErr result (OrMemory (IsUnplaced (query_shape query.now) version.now.fields version.now.history)) }
 {
-    Ok(version.answer_alone(alloc, query, &NobodyWaits)?)
+    Ok(version.answer_alone(alloc, query)?)
 }
 
 /// The query by positions in the fields of a version, or why there is none.

@@ -1,22 +1,26 @@
 //! What a table holds at a moment.
 
-ghost use Rattle.std.specs.Prelude.{ℕ, ◌≡◌, ◌<◌, ◌≤◌, ◌^◌, All, IfErr, IfOk, Some, length, map, option_map, slice_get, slice_index_or, [], true};
+ghost use Rattle.std.specs.Prelude.{ℕ, ◌≡◌, ◌⊎◌, ◌<◌, ◌≤◌, ◌^◌, All, IfErr, IfOk, None, OnOk, Some, length, map, option_map, slice_get, slice_index_or, [], true};
 ghost use Rattle.std.specs.Arc.{arc_value};
 ghost use Rattle.std.specs.List.{AllByRecursion};
 ghost use Rattle.answers.specs.Prelude.{AreStats, IsAnswer, IsRefusal, fits, query_shape};
-ghost use Rattle.arrays.specs.Prelude.{FieldShape, column, kind_of_field, rows_of};
+ghost use Rattle.arrays.specs.Prelude.{FieldShape, column, field_of, kind_of_field, rows_of};
 ghost use Rattle.table.specs.Export.{IsLawful};
 ghost use Rattle.table.specs.Cause.{IsLegal};
 ghost use Rattle.table.specs.Book.{pair_of};
 ghost use Rattle.table.specs.Storage.{IsConsistent, show};
 ghost use Rattle.table.specs.History.{book, rows};
 ghost use Rattle.table.specs.Lawful.{EndsWithEntry, IsStored, NamesFronts, dictionaries_of, rows_of_batches};
+ghost use Rattle.table.specs.Stored.{stored_field};
+ghost use Rattle.table.specs.Widened.{add_fault, with_last_field};
 
+use crate::add_fault::AddFault;
 use crate::entry::Entry;
 use crate::export::file_of;
 use crate::storage::Storage;
+use crate::widening::{fault_of, stage};
 use answers::{Answer, ColumnStats, Gate, Query, QueryFault};
-use arrays::{File, NoMemory, RecordBatch, Schema, Words};
+use arrays::{Field, File, NoMemory, RecordBatch, Schema, Words};
 use std::alloc::Global;
 use std::marker::Model;
 use std::sync::Arc;
@@ -64,6 +68,24 @@ impl Version {
         Ok(Version {
             storage: self.storage.clone()?,
         })
+    }
+
+    /// The version with a column of the field behind the others, in which its rows show null, as `TableState::add_column` gives
+    /// it to a table. What stands is shared, and this version stays as it is.
+    ///
+    /// # Errors
+    /// Those of `TableState::add_column`, by the field alone, and in its order.
+    pub fn with_column(&self, alloc: Global, field: &Field) -> Result<Arc<Version>, AddFault>
+        ensures allowed { OnOk result (add_fault (field_of field.now) ≡ None) }
+        ensures added { IfOk result (λ v. arc_value v ≡ with_last_field self.now (stored_field (field_of field.now))) }
+        ensures err { IfErr result (λ e. ((e ≡ AddFault.NoMemory) × (add_fault (field_of field.now) ≡ None))
+            ⊎ (add_fault (field_of field.now) ≡ Some e)) }
+    {
+        if let Some(fault) = fault_of(field) {
+            return Err(fault);
+        }
+        let storage = stage(alloc, self.storage(), field)?;
+        Ok(Version::of(alloc, storage)?)
     }
 
     /// What it shows.
@@ -159,17 +181,12 @@ impl Version {
     ///
     /// # Errors
     /// As `answer`.
-    pub fn answer_alone<G: Gate>(
-        &self,
-        alloc: Global,
-        query: &Query,
-        gate: &G,
-    ) -> Result<Answer, QueryFault>
+    pub fn answer_alone(&self, alloc: Global, query: &Query) -> Result<Answer, QueryFault>
         requires fits { fits self.now.fields (query_shape query.now) ≡ true }
         ensures ok { IfOk result (IsAnswer self.now.fields (query_shape query.now) (rows self.now.history)) }
         ensures err { IfErr result (IsRefusal self.now.fields (query_shape query.now) (rows self.now.history)) }
     {
-        answers::answer_alone(alloc, self.batches(), query, gate)
+        answers::answer_alone(alloc, self.batches(), query)
     }
 
     /// The stored schema, and one batch for each entry of the book: what each call added, in its order. A batch that one

@@ -55,6 +55,7 @@ enum Change {
     CompactShown,
     AddColumn,
     AddColumnShown,
+    WithColumn,
     Version,
 }
 
@@ -84,7 +85,7 @@ macro_rules! on {
 }
 
 #[rattlefmt::skip]
-pub(crate) static CASES: [(&str, Case); 28] = [
+pub(crate) static CASES: [(&str, Case); 30] = [
     ("RecordBatch::copy", on!(Make::Batch, OneMore)),
     ("Ready::new", on!(Make::Ready, OneMore)),
     ("Ready::new, codes", on!(Make::Ready, TwoBatches)),
@@ -113,6 +114,8 @@ pub(crate) static CASES: [(&str, Case); 28] = [
     ("TableState::add_column, large lists of lists", on!(AddColumn of LargeListsOfLists)),
     ("TableState::add_column_shown, texts", on!(AddColumnShown of Texts)),
     ("TableState::add_column_shown, large lists of lists", on!(AddColumnShown of LargeListsOfLists)),
+    ("Version::with_column, texts", on!(WithColumn of Texts)),
+    ("Version::with_column, large lists of lists", on!(WithColumn of LargeListsOfLists)),
 ];
 
 impl Case {
@@ -239,6 +242,10 @@ impl Growing {
                 told(report, self.table.add_column(field))
             }
             Change::AddColumnShown => given(report, self.table.add_column_shown(&self.field)),
+            Change::WithColumn => {
+                let version = self.table.version()?;
+                given(report, version.with_column(alloc, &self.field))
+            }
             Change::Version => given(report, self.table.version()),
         }
     }

@@ -48,12 +48,11 @@ pub(crate) fn answered_alone(
     rt: &impl Abort,
     alloc: Global,
     texts: (&str, &str),
-    gate: &impl Gate,
 ) -> Result<String, Fail> {
     let (batches, query) = read_both(alloc, texts)?;
     let rows = rows_in(&batches).expect(rt, "few rows");
     assert!(rt; rows <= MOST_ROWS);
-    report(alloc, answer_alone(alloc, &batches, &query, gate))
+    report(alloc, answer_alone(alloc, &batches, &query))
 }
 
 /// The batches of a file, and a query over them.

@@ -76,9 +76,11 @@ fn each_piece_passes_with_its_own_number(rt: HostRuntime) -> Result<(), Fail> {
 
 #[test]
 fn one_piece_is_looked_at_without_threads(rt: HostRuntime) -> Result<(), Fail> {
-    let gate = Counting::new();
-    let report = answered_alone(&rt, rt.alloc(), (PAIRS, SUMS), &gate)?;
+    let report = answered_alone(&rt, rt.alloc(), (PAIRS, SUMS))?;
     assert!(rt; report.as_str() == PAIRS_SUMS, "{report}");
+    let gate = Counting::new();
+    let same = answered(&rt, rt.alloc(), (PAIRS, SUMS), 1, &gate)?;
+    assert!(rt; same.as_str() == PAIRS_SUMS, "{same}");
     assert!(rt; gate.has_let_in(1));
     Ok(())
 }

@@ -48,11 +48,7 @@ fn rows_are_grouped_by_a_new_column(rt: HostRuntime) -> Result<(), Fail> {
         rt.alloc(),
         &version.answer(&rt, rt.alloc(), &query, 2, &OpenGate),
     )?;
-    expect(
-        &rt,
-        rt.alloc(),
-        &version.answer_alone(rt.alloc(), &query, &OpenGate),
-    )
+    expect(&rt, rt.alloc(), &version.answer_alone(rt.alloc(), &query))
 }
 
 /// Asserts that the groups are answered.

@@ -10,7 +10,7 @@ use Rattle.answers.proofs.WholeLemmas.{all_joined, is_answer, is_refusal}
 use Rattle.answers.proofs.answering.answer_alone.Goals as goal
 
 pub look_at_one-requires-clause-scan : goal.look_at_one-requires-clause-scan
-look_at_one-requires-clause-scan g c κs lives = record {
+look_at_one-requires-clause-scan c κs = record {
   types = c.requires.types;
   fits = c.requires.fits;
   comparable = c.count_all-rows.ensures.comparable;
@@ -21,20 +21,20 @@ look_at_one-requires-clause-scan g c κs lives = record {
 }
 
 pub returns-in_err-whole-clause-err : goal.returns-in_err-whole-clause-err
-returns-in_err-whole-clause-err g c =
+returns-in_err-whole-clause-err c =
     let batches : List Batch = map arc_value c.args.batches.now in
     let p = err_from_is_err_and c.from_residual-in_err-whole.result c.from_residual-in_err-whole.ensures.1 in
     rw (p.1, p.2) (is_refusal (first_fields batches) c.args.query.now (all_rows batches) 1 c.in_err-whole.field-0.0 (omega arith) c.in_err-whole.ensures)
 
 pub tell_in_turn-requires-clause-full : goal.tell_in_turn-requires-clause-full
-tell_in_turn-requires-clause-full g c =
+tell_in_turn-requires-clause-full c =
     let batches : List Batch = map arc_value c.args.batches.now in
     let q = c.args.query.now in
     let run = all_joined (first_fields batches) q (all_rows batches) 1 c.in_ok-whole.whole (omega arith) c.in_ok-whole.ensures in
     as_long q.by.items q.aggs.items _ c.in_ok-whole.whole.keys c.in_ok-whole.whole.columns.items run.kept.0
 
 pub returns-clause-ok : goal.returns-clause-ok
-returns-clause-ok g c =
+returns-clause-ok c =
     let batches : List Batch = map arc_value c.args.batches.now in
     let fields = first_fields batches in
     let q = c.args.query.now in
