@@ -1,7 +1,7 @@
 -- What was made of the files, as an answer of the sources' bytes.
-use Rattle.std.proofs.Common.{Result, Ok, Err, IfOk, IfErr, ◌≡◌, ◌∙◌, inl, inr, ℕ, List, [], ◌∷◌, length, map, Option, None, Some, ap, sym, refl, subst}
+use Rattle.std.proofs.Common.{Result, IfOk, IfErr, ◌≡◌, ◌∙◌, inl, inr, ℕ, List, [], ◌∷◌, length, map, Option, None, Some, ap, sym, refl, subst}
 use Rattle.std.proofs.lemmas.List.{length-map}
-use Rattle.std.proofs.lemmas.Result.{IfErr-weaker}
+use Rattle.std.proofs.lemmas.Result.{IfErr-weaker, IfOk-weaker}
 use Rattle.std.proofs.lemmas.Slice.Zip.{AllZip-long}
 use Rattle.arrays.specs.Prelude.{FieldShape, File}
 use Rattle.arrow_json.specs.Prelude.{ReadsQueryText, file_of}
@@ -12,11 +12,10 @@ use Rattle.job.specs.declared.jobs.Command.TheVariants.{Query}
 use Rattle.job.specs.declared.jobs.Job.{Job}
 use Rattle.job.specs.declared.jobs.Output.{Output}
 use Rattle.job.specs.declared.jobs.QuerySource.{QuerySource}
-use Rattle.table.specs.Prelude.{Contents, History, QueryFault, QueryText, add_fault, named}
+use Rattle.table.specs.Prelude.{Contents, History, QueryText, add_fault, named}
 use Rattle.table.specs.declared.add_fault.AddFault.{AddFault}
-use Rattle.table.specs.declared.refusal.Refusal.{Refusal}
-use Rattle.arrowtab.specs.Prelude.{Answers, AreRead, Explains, Holds, Inputs, IsColumn, IsLoaded, IsStopped, IsUnprinted, IsUnread, IsWanted, OfJob, Prints, PrintsNothing, PrintsWanted, Refuses, RefusesColumn, RefusesQuery, StopsLoading, column_text, fields_with, history_with, listed}
-use Rattle.reports.specs.Prelude.{FileBatch, IsUnreadQuery, OrMemory, RefusesGroups, batch_of, batches_with_fields, table_fields}
+use Rattle.arrowtab.specs.Prelude.{Answers, AreRead, Explains, Holds, Inputs, IsColumn, IsColumnRefused, IsFileRefused, IsLoaded, IsStopped, IsUnprinted, IsUnread, IsWanted, IsWith, OfJob, Prints, PrintsNothing, PrintsWanted, RefusesColumn, column_text, fields_with, history_with, listed}
+use Rattle.reports.specs.Prelude.{FileBatch, IsUnreadQuery, OrMemory, batch_of, batches_with_fields, table_fields}
 use Rattle.arrowtab.specs.declared.wanted.Wanted.{Wanted}
 use Rattle.arrowtab.specs.declared.wanted.Wanted.TheVariants.{Groups}
 use Rattle.reports.proofs.FileLemmas.{AreKept, data_of, file-listed}
@@ -64,70 +63,58 @@ refuses_column : (job : Job) (text : Option (List ℕ)) (f : FieldShape) (fault 
 refuses_column job None f fault given is stands = absurd is
 refuses_column job (Some bytes) f fault given is stands = record { text = bytes; field = f; given = given; read = is; stands = stands }
 
+pub column_explains : (job : Job) (inputs : Inputs) (before after : List ℕ) (column : Option FieldShape) (fault : RunFault) → IsColumn (column_text job) column → OrMemory (IsColumnRefused column) fault
+    → Explains job inputs before after fault
+column_explains job inputs before after column fault given (inl is) = subst (Explains job inputs before after) (sym is) tt
+column_explains job inputs before after column fault given (inr is) =
+    subst (Explains job inputs before after) (sym is.3) (refuses_column job (column_text job) is.0 is.1 refl (subst (IsColumn (column_text job)) is.2 given) is.4)
+
 -- ---- over the files
 
 module _ (job : Job) (inputs : Inputs) (files : List File) (are_read : AreRead inputs (data_of files)) (kept : AreKept files) where
-  loaded_data : (h : History) → IsLoaded job.workers (listed files) (fields_for files) h → IsLoaded job.workers (map batches_with_fields (data_of files)) (table_fields (data_of files)) h
-  loaded_data h loaded =
-      subst (λ (fs : List FieldShape). IsLoaded job.workers (map batches_with_fields (data_of files)) fs h) (sym (fields-same files))
-      (subst (λ (ls : List (List FileBatch)). IsLoaded job.workers ls (fields_for files) h) (sym (files-listed files kept)) loaded)
+  -- what holds of the files' batches and fields holds of what their bytes say
+  of_data : (P : List (List FileBatch) → List FieldShape → Type 0) → P (listed files) (fields_for files) → P (map batches_with_fields (data_of files)) (table_fields (data_of files))
+  of_data P is = subst (P (map batches_with_fields (data_of files))) (sym (fields-same files)) (subst (λ ls. P ls (fields_for files)) (sym (files-listed files kept)) is)
 
-  -- ---- what stopped the loading
+  pub loading_explains : (before after : List ℕ) (fault : RunFault) → OrMemory (IsFileRefused job.workers files) fault → Explains job inputs before after fault
+  loading_explains before after fault (inl is) = subst (Explains job inputs before after) (sym is) tt
+  loading_explains before after fault (inr is) =
+      subst (Explains job inputs before after) (sym is.3) (record { files = data_of files; read = are_read; stopped = of_data (λ ls fs. IsStopped job.workers ls fs is.0 is.1 is.2) is.4 })
 
-  refuses_stopped : (file number : ℕ) (refusal : Refusal) → IsStopped job.workers (listed files) (fields_for files) file number refusal → Refuses job.workers inputs file number refusal
-  refuses_stopped file number refusal stopped = record {
-    files = data_of files;
-    read = are_read;
-    stopped =
-        subst (λ (fs : List FieldShape). IsStopped job.workers (map batches_with_fields (data_of files)) fs file number refusal) (sym (fields-same files))
-        (subst (λ (ls : List (List FileBatch)). IsStopped job.workers ls (fields_for files) file number refusal) (sym (files-listed files kept)) stopped);
-  }
+  -- ---- the command's output
 
-  module _ (column : Option FieldShape) (given : IsColumn (column_text job) column) where
-    pub loading_explains : (before after : List ℕ) (fault : RunFault) → OrMemory (StopsLoading job.workers files column) fault → Explains job inputs before after fault
-    loading_explains before after fault (inl is) = subst (Explains job inputs before after) (sym is) tt
-    loading_explains before after fault (inr (inl is)) = subst (Explains job inputs before after) (sym is.3) (refuses_stopped is.0 is.1 is.2 is.4)
-    loading_explains before after fault (inr (inr is)) = subst (Explains job inputs before after) (sym is.3) (refuses_column job (column_text job) is.0 is.1 refl (subst (IsColumn (column_text job)) is.2 given) is.4)
+  module _ (column : Option FieldShape) (given : IsColumn (column_text job) column) (wanted : Wanted) (asked : IsWanted job.command wanted) (loaded v : Contents) (holds : Holds job.workers files loaded)
+      (wider : IsWith column loaded v) where
+    of_job : (says : List FieldShape → History → Type 0) → says v.fields v.history → OfJob job inputs says
+    of_job says is = record {
+      files = data_of files;
+      read = are_read;
+      column = column;
+      given = given;
+      allowed = wider.allowed;
+      history = loaded.history;
+      loaded = of_data (λ ls fs. IsLoaded job.workers ls fs loaded.history) holds.loaded;
+      is =
+          subst (λ (fs : List FieldShape). says (fields_with column fs) (history_with column fs loaded.history)) (holds.fields ∙ sym (fields-same files))
+          (subst (says (fields_with column loaded.fields)) wider.history (subst (λ (fs : List FieldShape). says fs v.history) wider.fields is));
+    }
 
-    -- ---- the command's output
+    answers_printed : (text : List ℕ) → PrintsWanted wanted job.workers v.fields v.history text → Answers job inputs text
+    answers_printed text prints =
+        of_job (λ fs h. Prints job.command job.workers fs h text) (prints_command job.command wanted job.workers v.fields v.history text asked prints)
 
-    module _ (wanted : Wanted) (asked : IsWanted job.command wanted) (v : Contents) (holds : Holds job.workers files column v) where
-      of_job : (says : List FieldShape → History → Type 0) → says v.fields v.history → OfJob job inputs says
-      of_job says is = record {
-        files = data_of files;
-        read = are_read;
-        column = column;
-        given = given;
-        allowed = holds.allowed;
-        history = holds.history;
-        loaded = loaded_data holds.history holds.loaded;
-        is =
-            subst (λ (fs : List FieldShape). says (fields_with column fs) (history_with column fs holds.history)) (sym (fields-same files))
-            (subst (λ (h : History). says (fields_with column (fields_for files)) h) holds.history_is
-            (subst (λ (fs : List FieldShape). says fs v.history) holds.fields is));
-      }
+    output_explains : (before after : List ℕ) (fault : RunFault) → OrMemory (IsUnprinted wanted v.fields v.history) fault → Explains job inputs before after fault
+    output_explains before after fault (inl is) = subst (Explains job inputs before after) (sym is) tt
+    output_explains before after fault (inr why) =
+        let asks = asks_query job.command wanted why.0 why.1 asked why.2 in
+        subst (Explains job inputs before after) (sym why.3.1)
+        (of_job (λ fs h. PrintsNothing job.command fs h why.3.0) (record { source = asks.0; output = why.1; asks = asks.1; query = named why.0; reads = asks.2; refuses = why.3.2 }))
 
-      answers_printed : (text : List ℕ) → PrintsWanted wanted job.workers v.fields v.history text → Answers job inputs text
-      answers_printed text prints =
-          of_job (λ fs h. Prints job.command job.workers fs h text) (prints_command job.command wanted job.workers v.fields v.history text asked prints)
+    pub ok_answers : {A : Type 0} (r : Result A RunFault) (text : A → List ℕ) → IfOk r (λ t. PrintsWanted wanted job.workers v.fields v.history (text t)) → IfOk r (λ t. Answers job inputs (text t))
+    ok_answers r text prints = IfOk-weaker r _ _ (λ t. answers_printed (text t)) prints
 
-      refuses_unanswered : (query : QueryText) (output : Output) (fault : QueryFault) → wanted ≡ Groups query output → RefusesGroups (named query) v.fields v.history fault → RefusesQuery job inputs fault
-      refuses_unanswered query output fault same refuses =
-          let asks = asks_query job.command wanted query output asked same in
-          of_job (λ fs h. PrintsNothing job.command fs h fault) (record { source = asks.0; output = output; asks = asks.1; query = named query; reads = asks.2; refuses = refuses })
-
-      output_explains : (before after : List ℕ) (fault : RunFault) → OrMemory (IsUnprinted wanted v.fields v.history) fault → Explains job inputs before after fault
-      output_explains before after fault (inl is) = subst (Explains job inputs before after) (sym is) tt
-      output_explains before after fault (inr why) =
-          let refused = why.3 in
-          subst (Explains job inputs before after) (sym refused.1) (refuses_unanswered why.0 why.1 refused.0 why.2 refused.2)
-
-      pub ok_answers : {A : Type 0} (r : Result A RunFault) (text : A → List ℕ) → IfOk r (λ t. PrintsWanted wanted job.workers v.fields v.history (text t)) → IfOk r (λ t. Answers job inputs (text t))
-      ok_answers (Ok t) text prints = answers_printed (text t) prints
-      ok_answers (Err fault) text prints = tt
-
-      pub err_explains : {A : Type 0} (before after : List ℕ) (r : Result A RunFault) → IfErr r (OrMemory (IsUnprinted wanted v.fields v.history)) → IfErr r (Explains job inputs before after)
-      err_explains before after r why = IfErr-weaker r _ _ (output_explains before after) why
+    pub err_explains : {A : Type 0} (before after : List ℕ) (r : Result A RunFault) → IfErr r (OrMemory (IsUnprinted wanted v.fields v.history)) → IfErr r (Explains job inputs before after)
+    err_explains before after r why = IfErr-weaker r _ _ (output_explains before after) why
 
 -- the fault of a query's text is one of the command that has the text
 pub text_unread : (command : Command) (source : QuerySource) (output : Output) → command ≡ Query source output → (fault : RunFault) → IsUnreadQuery (text_of_query source) fault → IsUnread command fault

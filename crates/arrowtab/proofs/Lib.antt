@@ -7,7 +7,6 @@ mod WorkedLemmas
 mod AnswerLemmas
 mod RunLemmas
 mod TogetherLemmas
-mod WideLemmas
 mod SettledLemmas
 mod OneLemmas
 mod QueryFileLemmas

@@ -1,101 +1,70 @@
 -- What workers made of files, from what each of them shows.
-use Rattle.std.proofs.Common.{◌≡◌, ◌≢◌, ◌∙◌, inl, inr, ℕ, zero, suc, ◌+◌, ◌%◌, ◌<◌, ◌≤◌, List, [], ◌∷◌, ◌++◌, Option, None, Some, IfSome, length, take, drop, get_or, slice_get, Result, Ok, Err, IfOk, Bool, true, false, ap, sym, refl, subst, arith, length-append, zero-add, add-zero}
-use Rattle.std.proofs.lemmas.List.{take_at}
+use Rattle.std.proofs.Common.{◌≡◌, ◌≢◌, ◌∙◌, inl, inr, ℕ, zero, suc, ◌+◌, ◌%◌, ◌<◌, ◌≤◌, List, [], ◌∷◌, ◌++◌, Option, None, Some, IfSome, length, take, get_or, ap, sym, refl, subst, arith, length-append, zero-add}
+use Rattle.std.proofs.lemmas.List.{get_or_default}
 use Rattle.std.proofs.lemmas.List.Elements.{filter-append}
-use Rattle.std.proofs.lemmas.List.Sums.{sum_by-append}
+use Rattle.std.proofs.lemmas.List.Folds.{list_any_at}
+use Rattle.std.proofs.lemmas.List.Sums.{sum_by-le}
 use Rattle.std.proofs.lemmas.Option.{slice_get-get_or}
-use Rattle.std.specs.Prelude.{All, ◌==◌, ◌||◌, sum_by}
-use Rattle.std.specs.List.{AllByRecursion}
+use Rattle.std.specs.Prelude.{All, ◌==◌}
 use mathlib.Core.List.{IsPrefix}
 use Rattle.arrays.specs.Prelude.{Batch, FieldShape, File, Table, rows_of}
 use Rattle.loads.specs.Loaded.{IsStoppedAt as IsHalted}
-use Rattle.loads.specs.Prelude.{AllLoaded, AreRun, IsLeastReported, Loaded, StandsAgainstLoading, StandsFor, Stop, batches_of_files, before_stop, fields_for, pairs_of, planned}
-use Rattle.loads.proofs.LoadLemmas.{HasLoaded, IsAlike, has_loaded}
+use Rattle.loads.specs.Prelude.{AllLoaded, AreRun, Loaded, StandsAgainstLoading, StandsFor, Stop, batches_of_files, before_stop, fields_for, pairs_of, planned}
+use Rattle.loads.proofs.LoadLemmas.{HasLoaded, has_loaded}
+use Rattle.loads.proofs.PlanLemmas.{all_begun, by_recursion, each_planned, map_begun, order_begun, planned_front, same_test, whole_begun}
 use Rattle.loads.specs.declared.fault.LoadFault.TheVariants as load
-use Rattle.shared.specs.Prelude.{AllThere, AreNew, Hand, HasAllItsPairs, InOrder, IsLegalKnown, IsNew, IsOfWorkers, IsWorkerOf, Known, Left, columns_of_hand, is_there, known_of}
+use Rattle.shared.specs.Prelude.{AllThere, AreNew, Hand, HasAllItsPairs, InOrder, IsLegalKnown, IsNew, IsWorkerOf, Known, Left, columns_of_hand, known_of}
 use Rattle.shared.proofs.KnownLemmas.{legal_wide, wide_again}
 use Rattle.table.proofs.FrontLemmas.{prefix_self, prefix_trans}
 use Rattle.table.specs.Prelude.{Contents, History, IsLegal, IsTableOf, batch_cause, difference, of, widened}
 use Rattle.table.specs.declared.refusal.Refusal.{Refusal}
 use Rattle.table.specs.declared.refusal.Refusal.TheVariants as refusal
-use Rattle.arrowtab.specs.Prelude.{Holds, IsLoaded, IsStopped, listed}
-use Rattle.reports.specs.declared.run_fault.RunFault.{RunFault}
-use Rattle.loads.proofs.PlanLemmas.{all_begun, by_recursion, each_planned, map_begun, order_begun, planned_front, same_test, whole_begun}
+use Rattle.arrowtab.specs.Prelude.{Holds, IsGathered, IsLoaded, IsStopped, listed}
 use Rattle.arrowtab.proofs.WorkedLemmas.{Fits, loaded_of, stopped_of}
 
-pub nobody : Hand
+nobody : Hand
 nobody = record { number = 0; seen = record { fields = []; history = [] }; mine = []; columns = 0; left = None }
 
-same_at : {A : Type 0} (xs : List A) (i : ℕ) (c d : A) → i < length xs → get_or xs i c ≡ get_or xs i d
-same_at [] i c d below = absurd (omega (arith, below))
-same_at (x ∷ xs) zero c d below = refl
-same_at (x ∷ xs) (suc i) c d below = same_at xs i c d (omega (arith, below))
+-- ---- one worker
 
--- a beginning's pairs of a worker begin that worker's
-of_begun : (h k : History) (w : ℕ) → IsPrefix h k → IsPrefix (of h w) (of k w)
-of_begun h k w begun = (of begun.0 w, sym (filter-append (λ e. e.0 == w) h begun.0) ∙ ap (λ (l : History). of l w) begun.1)
+new_at : (fields : List FieldShape) (first : ℕ) (hands : List Hand) (w : ℕ) → AreNew fields first hands → w < length hands → IsNew fields (first + w) (get_or hands w nobody)
+new_at fields first [] w are below = absurd (omega (arith, below))
+new_at fields first (h ∷ hands) zero are below = subst (λ n. IsNew fields n h) (omega arith) are.0
+new_at fields first (h ∷ hands) (suc w) are below = subst (λ n. IsNew fields n (get_or hands w nobody)) (omega arith) (new_at fields (first + 1) hands w are.1 (omega (arith, below)))
 
--- ---- what each worker loaded
-
-no_outcome : Left
-no_outcome = record { last = None; stop = None }
-
-pub has_planned : (files : List (List Batch)) (old new : List Hand) (w : ℕ) → AllLoaded files old new → w < length old → HasLoaded (planned files (length old) w) (get_or old w nobody) (get_or new w nobody)
-has_planned files old new w all below = has_loaded (planned files (length old) w) (get_or old w nobody) (get_or new w nobody) (all.each w nobody below)
-
-has_run : (files : List (List Batch)) (old new : List Hand) (outcomes : List Left) (w : ℕ) → AreRun files old new outcomes → w < length old
-    → HasLoaded (before_stop files (length old) w (get_or outcomes w no_outcome).stop) (get_or old w nobody) (get_or new w nobody)
-has_run files old new outcomes w are below =
-    has_loaded (before_stop files (length old) w (get_or outcomes w no_outcome).stop) (get_or old w nobody) (get_or new w nobody) (are.each w nobody no_outcome below).loaded
-
--- ---- a worker that was new
-
-pub new_at : (fields : List FieldShape) (first : ℕ) (hands : List Hand) (place n : ℕ) (d : Hand) → AreNew fields first hands → place < length hands → n ≡ first + place → IsNew fields n (get_or hands place d)
-new_at fields first [] place n d are below is = absurd (omega (arith, below))
-new_at fields first (h ∷ hands) zero n d are below is = subst (λ m. IsNew fields m h) (sym (is ∙ add-zero first)) are.0
-new_at fields first (h ∷ hands) (suc k) n d are below is = new_at fields (first + 1) hands k n d are.1 (omega (arith, below)) (omega (arith, is))
-
--- ---- fields that stay
-
--- two lists of fields that begin one another are one
-both_begin : (xs ys : List FieldShape) → IsPrefix xs ys → IsPrefix ys xs → xs ≡ ys
-both_begin xs ys one other = whole_begun xs ys one.0 one.1 (omega (arith, ap (λ (fs : List FieldShape). length fs) other.1, length-append ys other.0))
-
--- what lies between them is the same
+-- what lies between a list of fields and itself is the same
 between : (xs ys zs : List FieldShape) → xs ≡ zs → IsPrefix xs ys → IsPrefix ys zs → ys ≡ zs
-between xs ys zs same one other = sym (both_begin zs ys (subst (λ (fs : List FieldShape). IsPrefix fs ys) same one) other)
+between xs ys zs same one other =
+    whole_begun ys zs other.0 other.1 (omega (arith, ap (λ (fs : List FieldShape). length fs) one.1, length-append xs one.0, ap (λ (fs : List FieldShape). length fs) same))
 
 -- rows of the fields aren't widened to as many
 pairs_wide : (fields : List FieldShape) (w : ℕ) (bs : List Batch) → All (λ b. IsTableOf fields (rows_of b)) bs → widened (length fields) (pairs_of w bs) ≡ pairs_of w bs
 pairs_wide fields w [] all = refl
 pairs_wide fields w (b ∷ bs) all =
-    ap (λ (t : Table). (w, t) ∷ widened (length fields) (pairs_of w bs)) (wide_again fields (rows_of b) (all 0 b (omega arith)))
-    ∙ ap (λ (h : History). (w, rows_of b) ∷ h) (pairs_wide fields w bs (λ k d below. all (suc k) d (omega (arith, below))))
+    let one = wide_again fields (rows_of b) (all 0 b (omega arith)) in
+    let rest = pairs_wide fields w bs (λ k d below. all (suc k) d (omega (arith, below))) in
+    cc (one, rest)
 
--- under the fields of the opening, behind which no column was added, it has this number, and added these batches, which are all
--- that the history has of it
-pub record Added (fields : List FieldShape) (h : History) (place : ℕ) (bs : List Batch) (w : Hand) : Type 0 where
-  pub number : w.number ≡ place
-  pub stay : w.seen.fields ≡ fields
-  pub mine : w.mine ≡ pairs_of place bs
-  pub wide : widened (length fields) w.mine ≡ w.mine
-  pub whole : of h place ≡ pairs_of place bs
-  pub fits : All (Fits fields) bs
+-- Under the fields of the opening, behind which no column was added, it added these batches, which are all that the history has of it.
+record Added (fields : List FieldShape) (h : History) (place : ℕ) (bs : List Batch) (w : Hand) : Type 0 where
+  number : w.number ≡ place
+  stay : w.seen.fields ≡ fields
+  mine : w.mine ≡ pairs_of place bs
+  wide : widened (length fields) w.mine ≡ w.mine
+  whole : of h place ≡ pairs_of place bs
+  fits : All (Fits fields) bs
 
-added_new : (fields : List FieldShape) (k : Known) (place : ℕ) (bs : List Batch) (old new : Hand) → k.fields ≡ fields → IsNew fields place old → Loaded bs old new → HasAllItsPairs k new
+added_new : (fields : List FieldShape) (k : Known) (place : ℕ) (bs : List Batch) (old new : Hand) → k.fields ≡ fields → IsNew fields place old → HasLoaded bs old new → HasAllItsPairs k new
     → Added fields k.history place bs new
-added_new fields k place bs old new same was loaded whole =
-    let is = has_loaded bs old new loaded in
+added_new fields k place bs old new same was is whole =
     let opened : old.seen.fields ≡ fields = ap (λ (s : Known). s.fields) was.seen in
-    let ended : IsPrefix new.seen.fields fields = subst (λ (fs : List FieldShape). IsPrefix new.seen.fields fs) same whole.begun.fields in
-    let stay : new.seen.fields ≡ fields = between old.seen.fields new.seen.fields fields opened is.begun.fields ended in
-    let few : (b : Batch) → IsAlike old.seen new.seen b → (fs : List FieldShape) × (fs ≡ fields) × (difference fs b.fields ≡ None) × IsTableOf fs (rows_of b)
-    = λ b alike. (alike.fields, between old.seen.fields alike.fields fields opened alike.begun (subst (λ (fs : List FieldShape). IsPrefix alike.fields fs) stay alike.ended), alike.same, alike.shaped) in
-    let shaped : All (λ (b : Batch). IsTableOf fields (rows_of b)) bs
-    = λ i d below. let f = few (get_or bs i d) (is.alike i d below) in subst (λ (fs : List FieldShape). IsTableOf fs (rows_of (get_or bs i d))) f.1 f.3 in
-    let fits : All (Fits fields) bs
-    = λ i d below. let f = few (get_or bs i d) (is.alike i d below) in subst (λ (fs : List FieldShape). difference fs (get_or bs i d).fields ≡ None) f.1 f.2 in
-    let pairs = pairs_wide fields place bs shaped in
+    let stay : new.seen.fields ≡ fields = between old.seen.fields new.seen.fields fields opened is.begun.fields (subst (λ (fs : List FieldShape). IsPrefix new.seen.fields fs) same whole.begun.fields) in
+    let under : (i : ℕ) (d : Batch) → i < length bs → (Fits fields (get_or bs i d)) × IsTableOf fields (rows_of (get_or bs i d))
+    = λ i d below.
+    let alike = is.alike i d below in
+    let one = between old.seen.fields alike.fields fields opened alike.begun (subst (λ (fs : List FieldShape). IsPrefix alike.fields fs) stay alike.ended) in
+    subst (λ (fs : List FieldShape). (difference fs (get_or bs i d).fields ≡ None) × IsTableOf fs (rows_of (get_or bs i d))) one (alike.same, alike.shaped) in
+    let pairs = pairs_wide fields place bs (λ i d below. (under i d below).1) in
     let mine : new.mine ≡ pairs_of place bs
     = is.mine
     ∙ ap (λ (fs : List FieldShape). widened (length fs) (old.mine ++ pairs_of old.number bs)) stay
@@ -103,81 +72,77 @@ added_new fields k place bs old new same was loaded whole =
     ∙ ap (λ n. widened (length fields) (pairs_of n bs)) was.numbered
     ∙ pairs in
     let wide : widened (length fields) new.mine ≡ new.mine = ap (widened (length fields)) mine ∙ pairs ∙ sym mine in
-    let numbered : new.number ≡ place = is.number ∙ was.numbered in
     record {
-      number = numbered;
+      number = is.number ∙ was.numbered;
       stay = stay;
       mine = mine;
       wide = wide;
-      whole = ap (λ n. of k.history n) (sym numbered) ∙ whole.whole ∙ ap (λ (fs : List FieldShape). widened (length fs) new.mine) same ∙ wide ∙ mine;
-      fits = fits;
+      whole = ap (λ n. of k.history n) (sym (is.number ∙ was.numbered)) ∙ whole.whole ∙ ap (λ (fs : List FieldShape). widened (length fs) new.mine) same ∙ wide ∙ mine;
+      fits = λ i d below. (under i d below).0;
     }
 
--- ---- no column was added
+-- ---- all workers: each of those that were new loaded batches of its own
 
-pub none_added : (hands : List Hand) → ((w : ℕ) → w < length hands → (get_or hands w nobody).columns ≡ 0) → sum_by columns_of_hand hands ≡ 0
-none_added [] none = refl
-none_added (h ∷ hands) none =
-    let split : sum_by columns_of_hand (h ∷ hands) ≡ (0 + h.columns) + sum_by columns_of_hand hands = sum_by-append columns_of_hand (h ∷ []) hands in
-    omega (arith, split, none 0 (omega arith), none_added hands (λ w below. none (suc w) (omega (arith, below))))
+module _ (fields : List FieldShape) (old new : List Hand) (are : AreNew fields 0 old) (kept : length new ≡ length old) (bs : ℕ → List Batch)
+    (loads : (w : ℕ) → w < length old → Loaded (bs w) (get_or old w nobody) (get_or new w nobody)) where
+  was : (w : ℕ) → w < length old → IsNew fields w (get_or old w nobody)
+  was w below = subst (λ n. IsNew fields n (get_or old w nobody)) (zero-add w) (new_at fields 0 old w are below)
 
--- so the fields are those of the opening
-fields_stay : (fields : List FieldShape) (old new : List Hand) (v : Contents) → AreNew fields 0 old → length new ≡ length old
-    → ((w : ℕ) → w < length old → (get_or new w nobody).columns ≡ (get_or old w nobody).columns)
-    → IsPrefix fields v.fields → length v.fields ≡ length fields + sum_by columns_of_hand new → v.fields ≡ fields
-fields_stay fields old new v are kept same opened counted =
-    let none = none_added new (λ w below.
-    let inside : w < length old = omega (arith, below, kept) in
-    same w inside ∙ (new_at fields 0 old w w nobody are inside (sym (zero-add w))).columns) in
-    sym (whole_begun fields v.fields opened.0 opened.1 (omega (arith, none, counted)))
+  has : (w : ℕ) → w < length old → HasLoaded (bs w) (get_or old w nobody) (get_or new w nobody)
+  has w below = has_loaded (bs w) (get_or old w nobody) (get_or new w nobody) (loads w below)
 
-pub stopped_stay : (files : List File) (fields : List FieldShape) (old new : List Hand) (v : Contents) (file number : ℕ) (e : Refusal) → AreNew fields 0 old
-    → StandsAgainstLoading (load.Refused file number e) (batches_of_files files) old new → IsPrefix fields v.fields → length v.fields ≡ length fields + sum_by columns_of_hand new → v.fields ≡ fields
-stopped_stay files fields old new v file number e are (inr none) opened counted = let wants : load.Refused file number e ≡ load.NoMemory = none.0 in absurd (cc)
-stopped_stay files fields old new v file number e are (inl reported) opened counted =
-    fields_stay fields old new v are reported.1.kept (λ w below. (has_run (batches_of_files files) old new reported.0 w reported.1 below).columns) opened counted
+  there : AllThere (length old) new
+  there w below =
+      list_any_at (λ h. h.number == w) new w nobody (omega (arith, below, kept)) (same_test (get_or new w nobody).number w ((has w below).number ∙ (was w below).numbered))
+
+  module _ (v : Contents) (count : ℕ) (gathered : IsGathered count fields new v) where
+    -- no column was added, so the fields are those of the opening
+    stay : v.fields ≡ fields
+    stay =
+        let none : All (λ h. h.columns ≤ 0) new
+        = λ w d below.
+        let inside : w < length old = omega (arith, below, kept) in
+        omega (arith, ap (λ (h : Hand). h.columns) (get_or_default new w d nobody below), (has w inside).columns, (was w inside).columns) in
+        sym (whole_begun fields v.fields gathered.opened.0 gathered.opened.1 (omega (arith, sum_by-le columns_of_hand 0 new none, gathered.columns)))
+
+    added : (w : ℕ) → w < length old → Added fields v.history w (bs w) (get_or new w nobody)
+    added w below =
+        added_new fields (known_of v) w (bs w) (get_or old w nobody) (get_or new w nobody) stay (was w below) (has w below) (gathered.whole w nobody (omega (arith, below, kept)))
 
 -- ---- what they loaded
 
-loaded_all : (files : List File) (fields : List FieldShape) (old new : List Hand) (k : Known) → 1 ≤ length old → k.fields ≡ fields → AreNew fields 0 old → AllLoaded (batches_of_files files) old new
-    → All (HasAllItsPairs k) new → IsOfWorkers (length old) k.history → IsLegal fields k.history → IsLoaded (length old) (listed files) fields k.history
-loaded_all files fields old new k some same are all whole known legal =
+holds_all : (files : List File) (fields : List FieldShape) (old new : List Hand) (v : Contents) → 1 ≤ length old → fields ≡ fields_for files → AreNew fields 0 old
+    → AllLoaded (batches_of_files files) old new → IsGathered (length old) fields new v → Holds (length old) files v
+holds_all files fields old new v some same are all gathered =
     let n = length old in
-    let each : (w : ℕ) → w < n → Added fields k.history w (planned (batches_of_files files) n w) (get_or new w nobody)
-    = λ w below.
-    added_new fields k w (planned (batches_of_files files) n w) (get_or old w nobody) (get_or new w nobody) same (new_at fields 0 old w w nobody are below (sym (zero-add w))) (all.each w nobody below)
-    (whole w nobody (omega (arith, below, all.kept))) in
-    loaded_of n files fields k.history
-    (each_planned (Fits fields) n (batches_of_files files) some (λ w below. by_recursion (Fits fields) (planned (batches_of_files files) n w) (each w below).fits))
-    known
-    (λ w below. (each w below).whole)
-    legal
+    let plan : ℕ → List Batch = λ w. planned (batches_of_files files) n w in
+    let loads : (w : ℕ) → w < n → Loaded (plan w) (get_or old w nobody) (get_or new w nobody) = λ w below. all.each w nobody below in
+    let is = stay fields old new are all.kept plan loads v n gathered in
+    let own = added fields old new are all.kept plan loads v n gathered in
+    record {
+      fields = is ∙ same;
+      loaded =
+          subst (λ (fs : List FieldShape). IsLoaded n (listed files) fs v.history) same
+          (loaded_of n files fields v.history
+          (each_planned (Fits fields) n (batches_of_files files) some (λ w below. by_recursion (Fits fields) (plan w) (own w below).fits))
+          gathered.known
+          (λ w below. (own w below).whole)
+          (subst (λ (fs : List FieldShape). IsLegal fs v.history) is gathered.legal));
+    }
 
-holds_all : (workers : ℕ) (files : List File) (fields : List FieldShape) (old new : List Hand) (v : Contents) → 1 ≤ workers → length old ≡ workers → fields ≡ fields_for files
-    → AreNew fields 0 old → AllLoaded (batches_of_files files) old new
-    → All (HasAllItsPairs (known_of v)) new → IsOfWorkers workers v.history → IsLegal fields v.history → v.fields ≡ fields → Holds workers files None v
-holds_all workers files fields old new v some count same are all whole known legal is = record {
-  allowed = tt;
-  fields = is ∙ same;
-  history = v.history;
-  loaded =
-      subst (λ (fs : List FieldShape). IsLoaded workers (listed files) fs v.history) same
-      (subst (λ n. IsLoaded n (listed files) fields v.history) count
-      (loaded_all files fields old new (known_of v) (omega (arith, some, count)) is are all whole (subst (λ n. IsOfWorkers n v.history) (sym count) known) legal));
-  history_is = refl;
-}
+pub holds : (workers : ℕ) (files : List File) (fields : List FieldShape) (old new : List Hand) (v : Contents) → length old ≡ workers → 1 ≤ workers → fields ≡ fields_for files → AreNew fields 0 old
+    → AllLoaded (batches_of_files files) old new → IsGathered workers fields new v → Holds workers files v
+holds workers files fields old new v size some same are all =
+    subst (λ n. IsGathered n fields new v → Holds n files v) size (holds_all files fields old new v (omega (arith, some, size)) same are all)
 
--- each batch fits the fields
-pub all_fit : (files : List File) (fields : List FieldShape) (old new : List Hand) (v : Contents) → 1 ≤ length old → AreNew fields 0 old → AllLoaded (batches_of_files files) old new
-    → All (HasAllItsPairs (known_of v)) new → IsPrefix fields v.fields → length v.fields ≡ length fields + sum_by columns_of_hand new → AllByRecursion (AllByRecursion (Fits fields)) (batches_of_files files)
-all_fit files fields old new v some are all whole opened counted =
-    let stay = fields_stay fields old new v are all.kept (λ w below. (has_planned (batches_of_files files) old new w all below).columns) opened counted in
-    each_planned (Fits fields) (length old) (batches_of_files files) some (λ w below.
-    by_recursion (Fits fields) (planned (batches_of_files files) (length old) w)
-    (added_new fields (known_of v) w (planned (batches_of_files files) (length old) w) (get_or old w nobody) (get_or new w nobody) stay
-    (new_at fields 0 old w w nobody are below (sym (zero-add w))) (all.each w nobody below) (whole w nobody (omega (arith, below, all.kept)))).fits)
+pub loaded_there : (files : List (List Batch)) (fields : List FieldShape) (old new : List Hand) → AreNew fields 0 old → AllLoaded files old new → AllThere (length old) new
+loaded_there files fields old new are all = there fields old new are all.kept (λ w. planned files (length old) w) (λ w below. all.each w nobody below)
 
 -- ---- what stopped one of them
+
+-- a beginning's pairs of a worker begin that worker's
+of_begun : (h k : History) (w : ℕ) → IsPrefix h k → IsPrefix (of h w) (of k w)
+of_begun h k w begun = (of begun.0 w, sym (filter-append (λ e. e.0 == w) h begun.0) ∙ ap (λ (l : History). of l w) begun.1)
 
 -- whatever stopped a worker, what it added before begins its plan
 front_of : (files : List (List Batch)) (workers place : ℕ) (seen : Known) (o : Option Stop) → IfSome o (IsHalted files workers place seen)
@@ -190,66 +155,15 @@ cause_of : (k : Known) (b : Batch) (e : Refusal) → e ≢ refusal.NoMemory → 
 cause_of k b e known (inl wants) = absurd (known wants)
 cause_of k b e known (inr stands) = stands
 
--- the others' pairs that it had seen
-others_begun : (fields : List FieldShape) (files : List (List Batch)) (old new : List Hand) (outcomes : List Left) (seen : History) (k : Known) → k.fields ≡ fields → AreNew fields 0 old
-    → AreRun files old new outcomes → All (HasAllItsPairs k) new → IsPrefix seen k.history → (w : ℕ) → w < length old → IsPrefix (of seen w) (pairs_of w (planned files (length old) w))
-others_begun fields files old new outcomes seen k same are run whole begun w below =
-    let none : Left = record { last = None; stop = None } in
-    let o = get_or outcomes w none in
-    let is = run.each w nobody none below in
-    let bs = before_stop files (length old) w o.stop in
-    let all : of k.history w ≡ pairs_of w bs =
-    (added_new fields k w bs (get_or old w nobody) (get_or new w nobody) same (new_at fields 0 old w w nobody are below (sym (zero-add w))) is.loaded
-    (whole w nobody (omega (arith, below, run.kept)))).whole in
-    let part = subst (λ (l : History). IsPrefix (of seen w) l) all (of_begun seen k.history w begun) in
-    let front = map_begun (λ (b : Batch). (w, rows_of b)) bs (planned files (length old) w) (front_of files (length old) w (get_or new w nobody).seen o.stop is.stopped) in
-    prefix_trans (of seen w) (pairs_of w bs) (pairs_of w (planned files (length old) w)) part front
-
--- the worker that was stopped
-pub record Halted (fields : List FieldShape) (files : List (List Batch)) (h : History) (workers place file number : ℕ) (e : Refusal) (w : Hand) : Type 0 where
-  pub below : file < length files
-  pub own : file % workers ≡ place
-  pub added : Added fields h place (planned (take file files) workers place ++ take number (get_or files file [])) w
-  pub batch : Batch
-  pub there : slice_get (get_or files file []) number ≡ Some batch
-  pub stands : batch_cause w.seen.fields w.seen.history batch ≡ Some e
-
-halted_at : (fields : List FieldShape) (files : List (List Batch)) (old new : List Hand) (outcomes : List Left) (v : Known) (file number : ℕ) (e : Refusal) (k : ℕ) (o : Left) → v.fields ≡ fields
-    → AreNew fields 0 old → AreRun files old new outcomes → All (HasAllItsPairs v) new → e ≢ refusal.NoMemory → k < length old → (get_or outcomes k o).stop ≡ Some (file, number, e)
-    → Halted fields files v.history (length old) k file number e (get_or new k nobody)
-halted_at fields files old new outcomes v file number e k o same are run whole known inside stop =
-    let n = length old in
-    let w = get_or new k nobody in
-    let bs = planned (take file files) n k ++ take number (get_or files file []) in
-    let is = run.each k nobody o inside in
-    let halted : IsHalted files n k w.seen (file, number, e) = subst (λ (p : Option Stop). IfSome p (IsHalted files n k w.seen)) stop is.stopped in
-    let loaded : Loaded bs (get_or old k nobody) w = subst (λ (p : Option Stop). Loaded (before_stop files n k p) (get_or old k nobody) w) stop is.loaded in
-    record {
-      below = halted.file;
-      own = halted.own;
-      added = added_new fields v k bs (get_or old k nobody) w same (new_at fields 0 old k k nobody are inside (sym (zero-add k))) loaded (whole k nobody (omega (arith, inside, run.kept)));
-      batch = halted.batch;
-      there = halted.there;
-      stands = cause_of w.seen halted.batch e known halted.stands;
-    }
-
--- it is the one in its file's place
-halted_own : (fields : List FieldShape) (files : List (List Batch)) (old new : List Hand) (outcomes : List Left) (v : Known) (file number : ℕ) (e : Refusal) → v.fields ≡ fields → AreNew fields 0 old
-    → AreRun files old new outcomes → All (HasAllItsPairs v) new → IsLeastReported (file, number, e) outcomes
-    → Halted fields files v.history (length old) (file % length old) file number e (get_or new (file % length old) nobody)
-halted_own fields files old new outcomes v file number e same are run whole reported =
-    let met = reported.met in
-    let halted = halted_at fields files old new outcomes v file number e met.0 met.1 same are run whole reported.known (omega (arith, run.count, met.2)) (ap (λ (o : Left). o.stop) met.3 ∙ met.4) in
-    subst (λ k. Halted fields files v.history (length old) k file number e (get_or new k nobody)) (sym halted.own) halted
-
 -- all that it had seen of itself is all that it added
 own_whole : (fields : List FieldShape) (h : History) (place count : ℕ) (bs : List Batch) (w : Hand) → Added fields h place bs w → IsPrefix w.seen.history h → IsWorkerOf count w.seen w
-    → of w.seen.history place ≡ w.mine
+    → of w.seen.history place ≡ pairs_of place bs
 own_whole fields h place count bs w is begun part =
     let same : widened (length w.seen.fields) w.mine ≡ w.mine = ap (λ (fs : List FieldShape). widened (length fs) w.mine) is.stay ∙ is.wide in
     order_begun w.mine (of w.seen.history place)
     (subst (λ n. InOrder w.mine (of w.seen.history n)) is.number (subst (λ (l : History). InOrder l (of w.seen.history w.number)) same part.ordered))
     (subst (λ (l : History). IsPrefix (of w.seen.history place) l) (is.whole ∙ sym is.mine) (of_begun w.seen.history h place begun))
+    ∙ is.mine
 
 -- what it had seen begins the history
 seen_begun : (fields : List FieldShape) (k : Known) (w : Hand) → k.fields ≡ fields → w.seen.fields ≡ fields → IsLegalKnown w.seen → HasAllItsPairs k w → IsPrefix w.seen.history k.history
@@ -257,87 +171,70 @@ seen_begun fields k w same stay legal whole =
     let n : length k.fields ≡ length w.seen.fields = ap (λ (fs : List FieldShape). length fs) (same ∙ sym stay) in
     subst (λ (l : History). IsPrefix l k.history) (ap (λ m. widened m w.seen.history) n ∙ legal_wide w.seen legal) whole.begun.history
 
-stopped_own : (files : List File) (fields : List FieldShape) (old new : List Hand) (outcomes : List Left) (k : Known) (file number count : ℕ) (e : Refusal) (w : Hand) → k.fields ≡ fields → AreNew fields 0 old
-    → AreRun (batches_of_files files) old new outcomes → Halted fields (batches_of_files files) k.history (length old) (file % length old) file number e w
-    → IsWorkerOf count w.seen w → IsLegalKnown w.seen → HasAllItsPairs k w → All (HasAllItsPairs k) new → IsOfWorkers (length old) k.history
-    → IsStopped (length old) (listed files) fields file number e
-stopped_own files fields old new outcomes k file number count e w same are run halted part legal own whole known =
-    let all = batches_of_files files in
-    let stay = halted.added.stay in
-    let begun = seen_begun fields k w same stay legal own in
-    stopped_of (length old) files fields file number e (get_or all file []) halted.batch w.seen.history
-    (slice_get-get_or all file [] halted.below) halted.there
-    (all_begun (λ (p : ℕ × Table). p.0 < length old) w.seen.history k.history begun known)
-    (own_whole fields k.history (file % length old) count (planned (take file all) (length old) (file % length old) ++ take number (get_or all file [])) w halted.added begun part ∙ halted.added.mine)
-    (λ v below other. others_begun fields all old new outcomes w.seen.history k same are run whole begun v below)
-    (subst (λ (fs : List FieldShape). IsLegal fs w.seen.history) stay legal)
-    (ap (λ (fs : List FieldShape). batch_cause fs w.seen.history halted.batch) (sym stay) ∙ halted.stands)
+module _ (files : List File) (fields : List FieldShape) (old new : List Hand) (file number : ℕ) (e : Refusal) (are : AreNew fields 0 old) where
+  module _ (outcomes : List Left) (run : AreRun (batches_of_files files) old new outcomes) (d : Left) where
+    abbrev all : List (List Batch)
+    all = batches_of_files files
 
-stopped_one : (files : List File) (fields : List FieldShape) (old new : List Hand) (k : Known) (file number count : ℕ) (e : Refusal) (own : Hand) → 1 ≤ length old → k.fields ≡ fields → AreNew fields 0 old
-    → StandsAgainstLoading (load.Refused file number e) (batches_of_files files) old new → own ≡ get_or new (file % length old) own
-    → IsWorkerOf count own.seen own → IsLegalKnown own.seen → All (HasAllItsPairs k) new → IsOfWorkers (length old) k.history
-    → IsStopped (length old) (listed files) fields file number e
-stopped_one files fields old new k file number count e own some same are (inr none) at part legal whole known = let wants : load.Refused file number e ≡ load.NoMemory = none.0 in absurd (cc)
-stopped_one files fields old new k file number count e own some same are (inl reported) at part legal whole known =
-    let place = file % length old in
-    let inside : place < length new = omega (arith, some, reported.1.kept) in
-    let is : own ≡ get_or new place nobody = at ∙ same_at new place own nobody inside in
-    stopped_own files fields old new reported.0 k file number count e (get_or new place nobody) same are reported.1
-    (halted_own fields (batches_of_files files) old new reported.0 k file number e same are reported.1 whole reported.2)
-    (subst (λ (x : Hand). IsWorkerOf count x.seen x) is part) (subst (λ (x : Hand). IsLegalKnown x.seen) is legal)
-    (whole place nobody inside) whole known
+    abbrev front : ℕ → List Batch
+    front w = before_stop all (length old) w (get_or outcomes w d).stop
 
-pub stopped_all : (workers : ℕ) (files : List File) (fields : List FieldShape) (old new : List Hand) (v : Contents) (file number count : ℕ) (e : Refusal) (own : Hand) → 1 ≤ workers
-    → length old ≡ workers → fields ≡ fields_for files → v.fields ≡ fields → AreNew fields 0 old
-    → StandsAgainstLoading (load.Refused file number e) (batches_of_files files) old new → own ≡ get_or new (file % length old) own
-    → IsWorkerOf count own.seen own → IsLegalKnown own.seen → All (HasAllItsPairs (known_of v)) new → IsOfWorkers workers v.history
-    → IsStopped workers (listed files) (fields_for files) file number e
-stopped_all workers files fields old new v file number count e own some size same shown are stands at part legal whole known =
-    subst (λ (fs : List FieldShape). IsStopped workers (listed files) fs file number e) same
-    (subst (λ n. IsStopped n (listed files) fields file number e) size
-    (stopped_one files fields old new (known_of v) file number count e own (omega (arith, some, size)) shown are stands at part legal whole (subst (λ n. IsOfWorkers n v.history) (sym size) known)))
+    loads : (w : ℕ) → w < length old → Loaded (front w) (get_or old w nobody) (get_or new w nobody)
+    loads w below = (run.each w nobody d below).loaded
 
--- ---- all workers are there
+    run_there : AllThere (length old) new
+    run_there = there fields old new are run.kept front loads
 
-there_at : (hands : List Hand) (place n : ℕ) (d : Hand) → place < length hands → (get_or hands place d).number ≡ n → is_there hands n ≡ true
-there_at [] place n d below is = absurd (omega (arith, below))
-there_at (h ∷ hands) zero n d below is = ap (λ b. b || is_there hands n) (same_test h.number n is)
-there_at (h ∷ hands) (suc k) n d below is = later (h.number == n) (is_there hands n) (there_at hands k n d (omega (arith, below)) is)
-  where
-    later : (b rest : Bool) → rest ≡ true → (b || rest) ≡ true
-    later true rest is = refl
-    later false rest is = is
+    module _ (v : Contents) (gathered : IsGathered (length old) fields new v) (k count : ℕ) (inside : k < length old) (stop : (get_or outcomes k d).stop ≡ Some (file, number, e)) (known : e ≢ refusal.NoMemory)
+        (part : IsWorkerOf count (get_or new k nobody).seen (get_or new k nobody)) (legal : IsLegalKnown (get_or new k nobody).seen) where
+      stopped_at : IsStopped (length old) (listed files) fields file number e
+      stopped_at =
+          let n = length old in
+          let w = get_or new k nobody in
+          let own = added fields old new are run.kept front loads v n gathered in
+          let same = stay fields old new are run.kept front loads v n gathered in
+          let halted : IsHalted all n k w.seen (file, number, e) = subst (λ (p : Option Stop). IfSome p (IsHalted all n k w.seen)) stop (run.each k nobody d inside).stopped in
+          let begun = seen_begun fields (known_of v) w same (own k inside).stay legal (gathered.whole k nobody (omega (arith, inside, run.kept))) in
+          let mine : of w.seen.history k ≡ pairs_of k (planned (take file all) n k ++ take number (get_or all file []))
+          = own_whole fields v.history k count (front k) w (own k inside) begun part ∙ ap (λ (p : Option Stop). pairs_of k (before_stop all n k p)) stop in
+          stopped_of n files fields file number e (get_or all file []) halted.batch w.seen.history
+          (slice_get-get_or all file [] halted.file) halted.there
+          (all_begun (λ (p : ℕ × Table). p.0 < n) w.seen.history v.history begun gathered.known)
+          (subst (λ p. of w.seen.history p ≡ pairs_of p (planned (take file all) n p ++ take number (get_or all file []))) (sym halted.own) mine)
+          (λ x below other.
+          prefix_trans (of w.seen.history x) (pairs_of x (front x)) (pairs_of x (planned all n x))
+          (subst (λ (l : History). IsPrefix (of w.seen.history x) l) (own x below).whole (of_begun w.seen.history v.history x begun))
+          (map_begun (λ (b : Batch). (x, rows_of b)) (front x) (planned all n x) (front_of all n x (get_or new x nobody).seen (get_or outcomes x d).stop (run.each x nobody d below).stopped)))
+          (subst (λ (fs : List FieldShape). IsLegal fs w.seen.history) (own k inside).stay legal)
+          (ap (λ (fs : List FieldShape). batch_cause fs w.seen.history halted.batch) (sym (own k inside).stay) ∙ cause_of w.seen halted.batch e known halted.stands)
 
-pub all_there : (workers : ℕ) (fields : List FieldShape) (old new back : List Hand) → length old ≡ workers → length new ≡ length old → AreNew fields 0 old → back ≡ new
-    → ((w : ℕ) → w < length old → (get_or new w nobody).number ≡ (get_or old w nobody).number) → AllThere workers back
-all_there workers fields old new back size kept are is numbered n below =
-    let inside : n < length old = omega (arith, below, size) in
-    ap (λ hands. is_there hands n) is ∙ there_at new n n nobody (omega (arith, inside, kept)) (numbered n inside ∙ (new_at fields 0 old n n nobody are inside (sym (zero-add n))).numbered)
+  pub stopped_there : StandsAgainstLoading (load.Refused file number e) (batches_of_files files) old new → AllThere (length old) new
+  stopped_there (inr none) = let wants : load.Refused file number e ≡ load.NoMemory = none.0 in absurd (cc)
+  stopped_there (inl reported) = run_there reported.0 reported.1 (record { last = None; stop = None })
 
-pub loaded_there : (workers table : ℕ) (files : List File) (fields : List FieldShape) (old new back : List Hand) → table ≡ workers → length old ≡ workers → AreNew fields 0 old
-    → AllLoaded (batches_of_files files) old new → back ≡ new → AllThere table back
-loaded_there workers table files fields old new back same size are all is =
-    subst (λ n. AllThere n back) (sym same) (all_there workers fields old new back size all.kept are is (λ w below. (has_planned (batches_of_files files) old new w all below).number))
+  stopped_all : (v : Contents) (count : ℕ) (own : Hand) → fields ≡ fields_for files → 1 ≤ length old → StandsAgainstLoading (load.Refused file number e) (batches_of_files files) old new
+      → IsGathered (length old) fields new v → own ≡ get_or new (file % length old) own → IsWorkerOf count own.seen own → IsLegalKnown own.seen
+      → IsStopped (length old) (listed files) (fields_for files) file number e
+  stopped_all v count own same some (inr none) gathered at part legal = let wants : load.Refused file number e ≡ load.NoMemory = none.0 in absurd (cc)
+  stopped_all v count own same some (inl reported) gathered at part legal =
+      let run = reported.1 in
+      let met = reported.2.met in
+      let inside : met.0 < length old = omega (arith, run.count, met.2) in
+      let stop : (get_or reported.0 met.0 met.1).stop ≡ Some (file, number, e) = ap (λ (o : Left). o.stop) met.3 ∙ met.4 in
+      let halted : IsHalted (batches_of_files files) (length old) met.0 (get_or new met.0 nobody).seen (file, number, e)
+      = subst (λ (p : Option Stop). IfSome p (IsHalted (batches_of_files files) (length old) met.0 (get_or new met.0 nobody).seen)) stop (run.each met.0 nobody met.1 inside).stopped in
+      let is : own ≡ get_or new met.0 nobody
+      = at ∙ get_or_default new (file % length old) own nobody (omega (arith, some, run.kept)) ∙ ap (λ i. get_or new i nobody) halted.own in
+      subst (λ (fs : List FieldShape). IsStopped (length old) (listed files) fs file number e) same
+      (stopped_at reported.0 run met.1 v gathered met.0 count inside stop reported.2.known
+      (subst (λ (x : Hand). IsWorkerOf count x.seen x) is part) (subst (λ (x : Hand). IsLegalKnown x.seen) is legal))
 
-pub stopped_there : (workers table : ℕ) (files : List File) (fields : List FieldShape) (old new back : List Hand) (file number : ℕ) (e : Refusal) → table ≡ workers → length old ≡ workers → AreNew fields 0 old
-    → StandsAgainstLoading (load.Refused file number e) (batches_of_files files) old new → back ≡ new → AllThere table back
-stopped_there workers table files fields old new back file number e same size are (inr none) is = let wants : load.Refused file number e ≡ load.NoMemory = none.0 in absurd (cc)
-stopped_there workers table files fields old new back file number e same size are (inl reported) is =
-    subst (λ n. AllThere n back) (sym same) (all_there workers fields old new back size reported.1.kept are is (λ w below. (has_run (batches_of_files files) old new reported.0 w reported.1 below).number))
-
--- ---- the workers, written back
-
-pub written_back : (len : ℕ) (old new : List Hand) → len ≡ length old → length new ≡ length old → take len (new ++ drop (length new) old) ≡ new
-written_back len old new size kept = take_at new (drop (length new) old) len (omega (arith, size, kept))
-
-pub ok_holds : {A : Type 0} (workers table : ℕ) (files : List File) (fields : List FieldShape) (old new back : List Hand) (r : Result A RunFault) (seen : A → Contents) → 1 ≤ workers → table ≡ workers
-    → length old ≡ workers → fields ≡ fields_for files → AreNew fields 0 old → AllLoaded (batches_of_files files) old new → back ≡ new
-    → IfOk r (λ v. All (HasAllItsPairs (known_of (seen v))) back) → IfOk r (λ v. IsOfWorkers table (seen v).history) → IfOk r (λ v. IsLegalKnown (known_of (seen v)))
-    → IfOk r (λ v. IsPrefix fields (seen v).fields) → IfOk r (λ v. length (seen v).fields ≡ length fields + sum_by columns_of_hand back) → IfOk r (λ v. Holds workers files None (seen v))
-ok_holds workers table files fields old new back (Ok v) seen some same size stored are all is whole known legal opened counted =
-    let stay = fields_stay fields old new (seen v) are all.kept (λ w below. (has_planned (batches_of_files files) old new w all below).columns) opened
-    (subst (λ (hands : List Hand). length (seen v).fields ≡ length fields + sum_by columns_of_hand hands) is counted) in
-    holds_all workers files fields old new (seen v) some size stored are all
-    (subst (λ (hands : List Hand). All (HasAllItsPairs (known_of (seen v))) hands) is whole)
-    (subst (λ n. IsOfWorkers n (seen v).history) same known) (subst (λ (fs : List FieldShape). IsLegal fs (seen v).history) stay legal) stay
-ok_holds workers table files fields old new back (Err fault) seen some same size stored are all is whole known legal opened counted = tt
+  pub stopped : (workers : ℕ) (v : Contents) (count : ℕ) (own : Hand) → length old ≡ workers → 1 ≤ workers → fields ≡ fields_for files → StandsAgainstLoading (load.Refused file number e) (batches_of_files files) old new
+      → own ≡ get_or new (file % length new) own → IsWorkerOf count own.seen own → IsLegalKnown own.seen → IsGathered workers fields new v → IsStopped workers (listed files) (fields_for files) file number e
+  stopped workers v count own size some same stands at part legal =
+      subst (λ n. IsGathered n fields new v → IsStopped n (listed files) (fields_for files) file number e) size
+      (λ gathered. stopped_all v count own same (omega (arith, some, size)) stands gathered (at ∙ ap (λ n. get_or new (file % n) own) (long stands)) part legal)
+    where
+      long : StandsAgainstLoading (load.Refused file number e) (batches_of_files files) old new → length new ≡ length old
+      long (inr none) = ap (λ (l : List Hand). length l) none.1
+      long (inl reported) = reported.1.kept

@@ -1,6 +1,7 @@
 -- What workers loaded and what stopped them, from the pairs that each added.
-use Rattle.std.proofs.Common.{◌≡◌, ◌≢◌, ◌∙◌, ℕ, ◌%◌, ◌<◌, List, [], ◌∷◌, ◌++◌, None, Some, option_map, map, take, slice_get, ap, sym, subst}
+use Rattle.std.proofs.Common.{◌≡◌, ◌≢◌, ◌∙◌, ℕ, ◌%◌, ◌<◌, List, ◌++◌, None, Some, option_map, map, take, get_or, slice_get, ap, sym, subst}
 use Rattle.std.proofs.lemmas.List.{map-append, take-map}
+use Rattle.std.proofs.lemmas.List.Elements.{All-map}
 use Rattle.std.proofs.lemmas.Option.{slice_get-map}
 use Rattle.std.proofs.lemmas.Simd.{map-map}
 use Rattle.std.specs.Prelude.{All}
@@ -30,24 +31,18 @@ planned_tables worker files workers = added_tables worker (planned files workers
 abbrev pub Fits : List FieldShape → Batch → Type 0
 Fits fields b = difference fields b.fields ≡ None
 
-alike_mapped : (fields : List FieldShape) (bs : List Batch) → AllByRecursion (Fits fields) bs → AllByRecursion (λ (b : FileBatch). difference fields b.fields ≡ None) (map batch_of bs)
-alike_mapped fields [] alike = tt
-alike_mapped fields (b ∷ bs) alike = (alike.0, alike_mapped fields bs alike.1)
-
-alike_listed : (fields : List FieldShape) (files : List (List Batch)) → AllByRecursion (AllByRecursion (Fits fields)) files
-    → AllByRecursion (λ (bs : List FileBatch). All (λ b. difference fields b.fields ≡ None) bs) (map (map batch_of) files)
-alike_listed fields [] alike = tt
-alike_listed fields (bs ∷ files) alike = (
-  all_from (λ (b : FileBatch). difference fields b.fields ≡ None) (map batch_of bs) (alike_mapped fields bs alike.0),
-  alike_listed fields files alike.1,
-)
+alike_listed : (fields : List FieldShape) (files : List (List Batch)) → AllByRecursion (AllByRecursion (Fits fields)) files → All (All (λ (b : FileBatch). difference fields b.fields ≡ None)) (map (map batch_of) files)
+alike_listed fields files alike =
+    let fit : FileBatch → Type 0 = λ b. difference fields b.fields ≡ None in
+    All-map (All fit) (map batch_of) files
+    (λ i bs below. All-map fit batch_of (get_or files i bs) (all_from (Fits fields) (get_or files i bs) (all_from (AllByRecursion (Fits fields)) files alike i bs below)))
 
 -- ---- what was loaded
 
 pub loaded_of : (workers : ℕ) (files : List File) (fields : List FieldShape) (h : History) → AllByRecursion (AllByRecursion (Fits fields)) (batches_of_files files) → IsOfWorkers workers h
     → ((w : ℕ) → w < workers → of h w ≡ pairs_of w (planned (batches_of_files files) workers w)) → IsLegal fields h → IsLoaded workers (listed files) fields h
 loaded_of workers files fields h alike known each legal = record {
-  alike = all_from (λ (bs : List FileBatch). All (λ b. difference fields b.fields ≡ None) bs) (listed files) (alike_listed fields (batches_of_files files) alike);
+  alike = alike_listed fields (batches_of_files files) alike;
   known = known;
   each = λ w below. ap (map table_of) (each w below) ∙ planned_tables w (batches_of_files files) workers;
   legal = legal;

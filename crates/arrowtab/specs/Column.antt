@@ -1,9 +1,12 @@
 -- A column that is added once the files are loaded.
 use Rattle.std.specs.Prelude.{◌≡◌, ◌+◌, ◌++◌, ℕ, List, [], ◌∷◌, length, Option, None, Some, IfSome, option_map, string_bytes, ⊤}
 use Rattle.arrays.specs.Prelude.{FieldShape}
-use Rattle.arrow_json.specs.Prelude.{FieldTextFault, IsFieldText, JsonFaultKind, Step}
+use Rattle.arrow_json.specs.Prelude.{FieldTextFault, IsFieldText, JsonFault, JsonFaultKind, Step}
 use Rattle.job.specs.declared.jobs.Job.{Job}
-use Rattle.table.specs.Prelude.{History, add_fault, stored_field, widened}
+use Rattle.reports.specs.declared.run_fault.ColumnFault.TheVariants.{Refused, Unread}
+use Rattle.reports.specs.declared.run_fault.RunFault.{RunFault}
+use Rattle.reports.specs.declared.run_fault.RunFault.TheVariants.{OfColumn}
+use Rattle.table.specs.Prelude.{Contents, History, add_fault, stored_field, widened}
 use Rattle.table.specs.declared.add_fault.AddFault.{AddFault}
 
 -- The text of a job's column, where it has one.
@@ -44,3 +47,19 @@ pub record RefusesColumn (job : Job) (fault : AddFault) : Type 0 where
   pub given : column_text job ≡ Some text
   pub read : IsFieldText text field
   pub stands : add_fault field ≡ Some fault
+
+-- ---- what is made of a job's column, and what stops it
+
+-- A table with the column behind it, which may be added, where there is one.
+pub record IsWith (column : Option FieldShape) (before after : Contents) : Type 0 where
+  pub allowed : IsAllowed column
+  pub fields : after.fields ≡ fields_with column before.fields
+  pub history : after.history ≡ history_with column before.fields before.history
+
+-- The text of the job's column isn't read.
+abbrev pub IsColumnUnread : Job → RunFault → Type 0
+IsColumnUnread job fault = (f : JsonFault) × (fault ≡ OfColumn (Unread f)) × FailedColumn job f.kind f.path
+
+-- No column of the field may be added.
+abbrev pub IsColumnRefused : Option FieldShape → RunFault → Type 0
+IsColumnRefused column fault = (f : FieldShape) × (e : AddFault) × (column ≡ Some f) × (fault ≡ OfColumn (Refused e)) × (add_fault f ≡ Some e)

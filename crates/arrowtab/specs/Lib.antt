@@ -5,7 +5,6 @@ pub mod Column
 pub mod TookFault
 pub mod Run
 pub mod QueryFile
-pub mod Explained
 pub mod Wanted
 pub mod Worked
 pub mod Prelude

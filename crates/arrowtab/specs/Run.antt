@@ -100,6 +100,10 @@ ExplainsFile workers inputs before after file CannotRead = FailedRead before aft
 ExplainsFile workers inputs before after file (Json f) = FailedFile inputs file f.kind f.path
 ExplainsFile workers inputs before after file (Refused number refusal) = Refuses workers inputs file number refusal
 
+-- It is the fault of a file, and has a cause.
+abbrev pub IsOfFiles : ℕ → Inputs → List ℕ → List ℕ → RunFault → Type 0
+IsOfFiles workers inputs before after fault = (file : ℕ) × (f : FileFault) × (fault ≡ OfFile file f) × ExplainsFile workers inputs before after file f
+
 -- The cause of a fault of a job's column.
 abbrev pub ExplainsColumn : Job → ColumnFault → Type 0
 ExplainsColumn job (Unread f) = FailedColumn job f.kind f.path

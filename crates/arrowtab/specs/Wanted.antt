@@ -5,16 +5,13 @@ use Rattle.arrow_json.specs.Prelude.{JsonFault, ReadsQueryText}
 use Rattle.job.specs.Jobs.{text_of_query}
 use Rattle.job.specs.declared.jobs.Command.{Command}
 use Rattle.job.specs.declared.jobs.Command.TheVariants as command
-use Rattle.job.specs.declared.jobs.Job.{Job}
 use Rattle.job.specs.declared.jobs.Output.{Output}
 use Rattle.table.specs.Prelude.{History, QueryText, named}
-use Rattle.arrowtab.specs.Column.{FailedColumn}
 use Rattle.reports.specs.Prelude.{IsUnanswered, ShowsGroups, exported, first_lines, schema_lines, stats_text}
 use Rattle.arrowtab.specs.Output.{shown_as}
 use Rattle.arrowtab.specs.Run.{FailedQuery}
-use Rattle.reports.specs.declared.run_fault.ColumnFault.TheVariants.{Unread}
 use Rattle.reports.specs.declared.run_fault.RunFault.{RunFault}
-use Rattle.reports.specs.declared.run_fault.RunFault.TheVariants.{OfColumn, QueryUnread}
+use Rattle.reports.specs.declared.run_fault.RunFault.TheVariants.{QueryUnread}
 use Rattle.arrowtab.specs.declared.wanted.Wanted.{Wanted}
 use Rattle.arrowtab.specs.declared.wanted.Wanted.TheVariants.{Stats, Schema, Nothing, Head, Export, Groups}
 
@@ -30,10 +27,6 @@ IsWanted (command.Query source output) wanted = (query : QueryText) × (wanted �
 -- The command's query isn't read.
 abbrev pub IsUnread : Command → RunFault → Type 0
 IsUnread command fault = (f : JsonFault) × (fault ≡ QueryUnread f) × FailedQuery command f.kind f.path
-
--- The text of the job's column isn't read.
-abbrev pub IsColumnUnread : Job → RunFault → Type 0
-IsColumnUnread job fault = (f : JsonFault) × (fault ≡ OfColumn (Unread f)) × FailedColumn job f.kind f.path
 
 -- The text is what is wanted, for so many workers.
 abbrev pub PrintsWanted : Wanted → ℕ → List FieldShape → History → List ℕ → Type 0

@@ -4,10 +4,11 @@ ghost use Rattle.reports.specs.OrMemory.{OrMemory};
 ghost use Rattle.arrowtab.specs.Run.{Answers, Explains};
 ghost use Rattle.arrowtab.specs.Wanted.{IsUnprinted, PrintsWanted};
 
+use crate::column::{column_of, with_column};
 use crate::groups::groups_text;
 use crate::reading::read_files;
 use crate::together::load_together;
-use crate::wanted::{Wanted, column_of, wanted_of};
+use crate::wanted::{Wanted, wanted_of};
 use ends::Source;
 use job::Job;
 use reports::{RunFault, export_text, head_text, schema_text, stats_text};
@@ -17,7 +18,7 @@ use std::thread::Threads;
 use table::Version;
 
 /// Reads the job's query and its column's field, then all sources, one after the other, has the job's workers load their
-/// files, adds the column, and makes the command's output.
+/// files, puts the column behind what they loaded, and makes the command's output.
 pub(crate) fn answer<W: Wait + Sync, T: Threads + Sync, S: Source>(
     wait: &W,
     threads: &T,
@@ -36,7 +37,8 @@ pub(crate) fn answer<W: Wait + Sync, T: Threads + Sync, S: Source>(
     let wanted = wanted_of(alloc, &job.command)?;
     let column = column_of(alloc, job)?;
     let files = read_files(threads, alloc, job.workers, sources)?;
-    let version = load_together(wait, threads, alloc, job.workers, files, column)?;
+    let loaded = load_together(wait, threads, alloc, job.workers, files)?;
+    let version = with_column(alloc, loaded, column)?;
     output_of(threads, alloc, &wanted, job.workers, &version)
 }
 

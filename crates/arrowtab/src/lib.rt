@@ -3,6 +3,7 @@
 #![tactic(auto)]
 
 mod answer;
+mod column;
 mod groups;
 mod invocation;
 pub mod laws;

@@ -2,9 +2,8 @@
 ghost use Rattle.std.specs.Prelude.{◌≡◌, ◌⊎◌, ◌^◌, ◌-◌, ◌<◌, All, IfErr, IfOk, map};
 ghost use Rattle.std.specs.List.{AllByRecursion};
 ghost use Rattle.arrow_json.specs.Prelude.{AreUnder, file_of};
-ghost use Rattle.arrowtab.specs.Explained.{IsFileUnread};
 ghost use Rattle.reports.specs.OrMemory.{OrMemory};
-ghost use Rattle.arrowtab.specs.Run.{AreRead};
+ghost use Rattle.arrowtab.specs.Run.{AreRead, IsOfFiles};
 
 use crate::windows::add_files;
 use arrays::File;
@@ -24,7 +23,7 @@ pub(crate) fn read_files<T: Threads + Sync, S: Source>(
     requires { All (λ s. S.failures s < 2 ^ 64 - 1) sources.old }
     ensures read { IfOk result (λ files. AreRead (map S.remaining sources.old) (map file_of files.items)) }
     ensures under { IfOk result (λ files. AllByRecursion (λ f. AreUnder f.fields f.batches) files.items) }
-    ensures err { IfErr result (OrMemory (IsFileUnread (map S.remaining sources.old) (map S.failures sources.old) (map S.failures sources.new))) }
+    ensures err { IfErr result (OrMemory (IsOfFiles workers (map S.remaining sources.old) (map S.failures sources.old) (map S.failures sources.new))) }
 {
     let mut files = Vec::new(alloc);
     let mut texts = Vec::new(alloc);

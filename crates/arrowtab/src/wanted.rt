@@ -1,14 +1,10 @@
-//! What a job asks for: its query and its column's field are read before any source is.
-ghost use Rattle.std.specs.Prelude.{IfErr, IfOk, option_map};
-ghost use Rattle.arrays.specs.Prelude.{field_of};
-ghost use Rattle.arrowtab.specs.Column.{IsColumn, column_text};
+//! What a job asks for: its query is read before any source is.
+ghost use Rattle.std.specs.Prelude.{IfErr, IfOk};
 ghost use Rattle.reports.specs.OrMemory.{OrMemory};
-ghost use Rattle.arrowtab.specs.Wanted.{IsColumnUnread, IsUnread, IsWanted};
+ghost use Rattle.arrowtab.specs.Wanted.{IsUnread, IsWanted};
 
-use arrays::Field;
-use arrow_json::{JsonFaultKind, read_field};
-use job::{Command, Job, Output};
-use reports::{ColumnFault, RunFault, read_query_text};
+use job::{Command, Output};
+use reports::{RunFault, read_query_text};
 use std::alloc::Global;
 use table::QueryText;
 
@@ -21,23 +17,6 @@ pub(crate) enum Wanted {
     Head(u64),
     Export,
     Groups(QueryText, Output),
-}
-
-/// The field of the column that is added once the files are loaded, where the job has one.
-pub(crate) fn column_of(alloc: Global, job: &Job) -> Result<Option<Field>, RunFault>
-    ensures ok { IfOk result (λ field. IsColumn (column_text job.now) (option_map field_of field)) }
-    ensures err { IfErr result (OrMemory (IsColumnUnread job.now)) }
-{
-    let Some(text) = &job.column else {
-        return Ok(None);
-    };
-    match read_field(alloc, text.as_str().as_bytes()) {
-        Ok(field) => Ok(Some(field)),
-        Err(fault) => match fault.kind {
-            JsonFaultKind::NoMemory => Err(RunFault::NoMemory),
-            _ => Err(RunFault::OfColumn(ColumnFault::Unread(fault))),
-        },
-    }
 }
 
 /// What a command asks for, or why its query isn't read.
