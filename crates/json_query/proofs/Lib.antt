@@ -1,4 +1,3 @@
 -- What the proofs of this crate share.
 mod Readings
-mod Depths
 mod QueryReadings

@@ -1,7 +1,7 @@
 -- The words of json_query that contracts and proofs name most.
-pub use Rattle.json_query.specs.QueryDocument.{ReadsQueryText, agg, agg_named, aggs, by, document_of, few, filter, query_of, shape}
-unfoldable pub use Rattle.json_query.specs.QueryDocument.{query_text}
+pub use Rattle.json_query.specs.QueryDocument.{ReadsQueryText, agg, query_of}
+unfoldable pub use Rattle.json_query.specs.QueryDocument.{aggs, by, filter, key_names, list_in, query_text}
 pub use Rattle.json_query.specs.QueryDocumentFault.{QueryBytesFault}
-pub use Rattle.json_query.specs.QueryExpr.{expr, expr_with, formed, named_tree, operator_of, with_arguments, with_count}
+pub use Rattle.json_query.specs.QueryExpr.{expr_within, formed, named_tree, operands, operator_of}
 pub use Rattle.json_query.specs.QueryForm.{form_of, operand_count}
-pub use Rattle.json_query.specs.Reading.{JsonReading, MayReport, array_of, both, chain, each_item, faulty, mapped, nested, required, string_of, wanted}
+pub use Rattle.json_query.specs.Reading.{JsonReading, MayReport, array_in, both, chain, each_after, each_item, items, mapped, under, wanted}

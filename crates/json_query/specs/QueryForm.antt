@@ -35,7 +35,7 @@ abbrev pub uint64 : IntType
 uint64 = record { bits = W64; signed = false }
 
 -- A whole number from -2^63 to 2^64 - 1, spelled as a number or as a text: an integer of signed or of unsigned 64 bits.
-abbrev pub literal_of : Data → Option ℤ
+unfoldable pub literal_of : Data → Option ℤ
 literal_of d = option_or (integer_of int64 d) (integer_of uint64 d)
 
 -- ---- operators

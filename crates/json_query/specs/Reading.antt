@@ -1,8 +1,6 @@
 -- What is read of a document: a value, or the faults that stand. Readings are put together from parts.
-use Rattle.std.specs.Prelude.{ℕ, ◌+◌, List, [], ◌∷◌, ◌++◌, map, Option, None, Some, Result, Ok, Err, ok_or, Contains}
-use Rattle.std.specs.Ordering.{nat_cmp, match_ordering}
-use Rattle.std.specs.Cmp.Lexicographic.{slice_cmp}
-use Rattle.json_base.specs.Prelude.{Data, Items, Members, array, as_array, as_object, as_str, fault_at, item, member, member_name, member_of, no_items, no_members, object}
+use Rattle.std.specs.Prelude.{ℕ, ◌+◌, List, [], ◌∷◌, ◌++◌, map, Bool, if◌then◌else◌, Option, is_some, option_and_then, Result, Ok, Err, ok_or, Contains}
+use Rattle.json_base.specs.Prelude.{Data, Items, as_array, as_object, as_str, fault_at, item, member_of, no_items}
 use Rattle.json_base.specs.declared.path.Member.{Member}
 use Rattle.json_base.specs.declared.path.Step.{Step}
 use Rattle.json_base.specs.declared.path.Step.TheVariants as step
@@ -23,12 +21,9 @@ pub record MayReport {A : Type 0} (r : JsonReading A) (kind : JsonFaultKind) (pa
 
 -- ---- readings of one and of several things
 
-abbrev pub faulty : {A : Type 0} → JsonFaultKind → List Step → JsonReading A
-faulty kind path = Err (fault_at kind path ∷ [])
-
--- A thing that must be there.
-abbrev pub wanted : {A : Type 0} → JsonFaultKind → Option A → JsonReading A
-wanted kind o = ok_or o (fault_at kind [] ∷ [])
+-- A thing that must be there, or this fault.
+abbrev pub wanted : {A : Type 0} → JsonFaultKind → List Step → Option A → JsonReading A
+wanted kind path o = ok_or o (fault_at kind path ∷ [])
 
 -- One reading, and then another that depends on it.
 abbrev pub chain : {A B : Type 0} → JsonReading A → (A → JsonReading B) → JsonReading B
@@ -48,55 +43,34 @@ abbrev pub under : {A : Type 0} → Step → JsonReading A → JsonReading A
 under step (Ok x) = Ok x
 under step (Err faults) = Err (map (λ f. fault_at f.kind (step ∷ f.path)) faults)
 
--- ---- readings of values
+-- A reading of what must pass a test: its faults stand beside that of the test.
+abbrev pub tested : {A : Type 0} → Bool → JsonReading A → JsonReading A
+tested test r = if test then r else Err (fault_at WrongMember [] ∷ faults_of r)
 
-abbrev pub string_of : Data → JsonReading (List ℕ)
-string_of d = wanted WrongMember (as_str d)
+-- ---- readings of values
 
 -- A reading of what must be an object.
 abbrev pub if_object : {A : Type 0} → Data → JsonReading A → JsonReading A
-if_object d r = chain (wanted WrongMember (as_object d)) (λ _. r)
+if_object d r = if is_some (as_object d) then r else Err (fault_at WrongMember [] ∷ [])
 
--- The member of an object.
-abbrev pub required : {A : Type 0} → Member → (Data → JsonReading A) → Data → JsonReading A
-required m r d = if_object d (under (step.Member m) (chain (wanted MissingMember (member_of m d)) r))
+-- What a member of an object is, or its one fault: that it is missing, or this one, where it is another thing.
+abbrev pub required : {A : Type 0} → Member → JsonFaultKind → (Data → Option A) → Data → JsonReading A
+required m kind what d = wanted (if is_some (member_of m d) then kind else MissingMember) (step.Member m ∷ []) (option_and_then what (member_of m d))
 
-abbrev pub array_of : Data → JsonReading Items
-array_of d = wanted WrongMember (as_array d)
+abbrev pub text_in : Member → Data → JsonReading (List ℕ)
+text_in m d = required m WrongMember as_str d
 
--- A thing that may be absent: then it is x.
-abbrev pub optional : {A : Type 0} → A → (Data → JsonReading A) → Option Data → JsonReading A
-optional x r None = Ok x
-optional x r (Some d) = r d
+abbrev pub array_in : Member → Data → JsonReading Items
+array_in m d = required m WrongMember as_array d
 
--- The items from the n-th on, one by one.
-abbrev pub each_from : {A : Type 0} → ℕ → (Data → JsonReading A) → Items → JsonReading (List A)
-each_from n r no_items = Ok []
-each_from n r (item d ds) = both (λ x xs. x ∷ xs) (under (step.Item n) (r d)) (each_from (n + 1) r ds)
+-- What is read of the items of an array in the member.
+abbrev pub items : {A : Type 0} → Member → JsonReading Items → (Items → JsonReading A) → JsonReading A
+items m found r = chain found (λ ds. under (step.Member m) (r ds))
+
+-- The items from the n-th on, one by one, after what is read of those before.
+abbrev pub each_after : {A : Type 0} → JsonReading (List A) → ℕ → (Data → JsonReading A) → Items → JsonReading (List A)
+each_after done n r no_items = done
+each_after done n r (item d ds) = each_after (both (λ xs x. xs ++ x ∷ []) done (under (step.Item n) (r d))) (n + 1) r ds
 
 abbrev pub each_item : {A : Type 0} → (Data → JsonReading A) → Items → JsonReading (List A)
-each_item r ds = each_from 0 r ds
-
--- The items of what is found in the member.
-abbrev pub items : {A : Type 0} → Member → (Data → JsonReading A) → JsonReading Items → JsonReading (List A)
-items m r found = chain found (λ ds. under (step.Member m) (each_item r ds))
-
--- ---- values within values of the same kind
-
--- The list in the member of an object, each of whose items is read by what it is and by the list in the same member of it.
-abbrev mutual
-  pub nested : {A : Type 0} → Member → (Data → JsonReading (List A) → JsonReading A) → Data → JsonReading (List A)
-  nested m r (object ms) = under (step.Member m) (nested_in m r ms)
-  nested m r d = faulty WrongMember []
-
-  pub nested_in : {A : Type 0} → Member → (Data → JsonReading (List A) → JsonReading A) → Members → JsonReading (List A)
-  nested_in m r no_members = faulty MissingMember []
-  nested_in m r (member k d ms) = match_ordering (slice_cmp nat_cmp (member_name m) k) (nested_in m r ms) (nested_list m r d) (nested_in m r ms)
-
-  pub nested_list : {A : Type 0} → Member → (Data → JsonReading (List A) → JsonReading A) → Data → JsonReading (List A)
-  nested_list m r (array ds) = nested_from 0 m r ds
-  nested_list m r d = faulty WrongMember []
-
-  pub nested_from : {A : Type 0} → ℕ → Member → (Data → JsonReading (List A) → JsonReading A) → Items → JsonReading (List A)
-  nested_from n m r no_items = Ok []
-  nested_from n m r (item d ds) = both (λ x xs. x ∷ xs) (under (step.Item n) (r d (nested m r d))) (nested_from (n + 1) m r ds)
+each_item r ds = each_after (Ok []) 0 r ds

@@ -47,6 +47,7 @@ pub(crate) fn form_of(object: &Value) -> Option<Form>
 }
 
 /// A whole number from -2^63 to 2^64 - 1, as a number or as a text.
+#[tactic(auto, unfolding(crate::specs::QueryForm::literal_of))]
 pub(crate) fn literal(value: &Value) -> Option<i128>
     ensures { result ≡ literal_of (view value.now) }
 {

@@ -1,10 +1,11 @@
 //! The parts of a query that are lists.
 
-ghost use Rattle.std.specs.Prelude.{◌≡◌, ◌≤◌, Ok, IfOk, IfErr, length, map, string_bytes};
+ghost use Rattle.std.specs.Prelude.{◌≡◌, [], Ok, IfOk, IfErr, map, string_bytes};
 ghost use Rattle.query.specs.Resolved.{renamed_agg};
-ghost use Rattle.json_base.specs.Prelude.{Tells, items_view, view};
-ghost use Rattle.json_query.specs.Reading.{MayReport, each_item, string_of};
-ghost use Rattle.json_query.specs.QueryDocument.{agg, aggs, by, list_in};
+ghost use Rattle.json_base.specs.Prelude.{Tells, as_str, items_view, view};
+ghost use Rattle.json_base.specs.declared.fault.JsonFaultKind.TheVariants.{WrongMember};
+ghost use Rattle.json_query.specs.Reading.{MayReport, each_item, wanted};
+ghost use Rattle.json_query.specs.QueryDocument.{agg, aggs, by, key_names, list_in};
 
 use crate::agg::read_agg;
 use arrayvec::ArrayVec;
@@ -17,7 +18,7 @@ use std::alloc::Global;
 const MOST_NAMES: usize = 4;
 
 /// The items of an array that may be absent: then there are none.
-#[tactic(auto, using(crate::proofs::Readings::reading))]
+#[tactic(auto, using(crate::proofs::Readings::reading), unfolding(crate::specs::QueryDocument::list_in))]
 fn listed(alloc: Global, object: &Value, member: Member) -> Result<&[Value], JsonFault>
     ensures ok { IfOk result (λ items. list_in member (view object.now) ≡ Ok (items_view items.now)) }
     ensures err { IfErr result (Tells (MayReport (list_in member (view object.now)))) }
@@ -34,8 +35,8 @@ fn listed(alloc: Global, object: &Value, member: Member) -> Result<&[Value], Jso
 /// The name that a value is.
 #[tactic(auto, using(crate::proofs::Readings::reading))]
 fn read_name(alloc: Global, value: &Value) -> Result<String, JsonFault>
-    ensures ok { IfOk result (λ name. string_of (view value.now) ≡ Ok (string_bytes name)) }
-    ensures err { IfErr result (Tells (MayReport (string_of (view value.now)))) }
+    ensures ok { IfOk result (λ name. wanted WrongMember [] (as_str (view value.now)) ≡ Ok (string_bytes name)) }
+    ensures err { IfErr result (Tells (MayReport (wanted WrongMember [] (as_str (view value.now))))) }
 {
     match value.as_str() {
         Some(name) => owned(alloc, name),
@@ -43,16 +44,18 @@ fn read_name(alloc: Global, value: &Value) -> Result<String, JsonFault>
     }
 }
 
-/// The names that the values are.
-#[tactic(auto, using(crate::proofs::Readings::loops))]
+/// The names that the values are, no more than make a key.
+#[tactic(auto, using(crate::proofs::Readings::loops), unfolding(crate::specs::QueryDocument::key_names))]
 fn read_names(
     alloc: Global,
     values: &[Value],
 ) -> Result<ArrayVec<String, MOST_NAMES, Global>, JsonFault>
-    requires { length values.now ≤ MOST_NAMES }
-    ensures ok { IfOk result (λ names. each_item string_of (items_view values.now) ≡ Ok (map string_bytes names.items)) }
-    ensures err { IfErr result (Tells (MayReport (each_item string_of (items_view values.now)))) }
+    ensures ok { IfOk result (λ names. key_names (items_view values.now) ≡ Ok (map string_bytes names.items)) }
+    ensures err { IfErr result (Tells (MayReport (key_names (items_view values.now)))) }
 {
+    if values.len() > MOST_NAMES {
+        return Err(JsonFault::at(alloc, JsonFaultKind::WrongMember, &[]));
+    }
     let mut names = ArrayVec::new_in(alloc);
     for (index, value) in values.iter().enumerate() {
         match read_name(alloc, value) {
@@ -64,7 +67,7 @@ fn read_names(
 }
 
 /// The columns whose items are the key of a group.
-#[tactic(auto, using(crate::proofs::Readings::reading))]
+#[tactic(auto, using(crate::proofs::Readings::reading), unfolding(crate::specs::QueryDocument::by))]
 pub(crate) fn read_by(
     alloc: Global,
     object: &Value,
@@ -73,9 +76,6 @@ pub(crate) fn read_by(
     ensures err { IfErr result (Tells (MayReport (by (view object.now)))) }
 {
     let values = listed(alloc, object, Member::By)?;
-    if values.len() > MOST_NAMES {
-        return Err(unlike(alloc, Member::By));
-    }
     match read_names(alloc, values) {
         Ok(names) => Ok(names),
         Err(fault) => Err(fault.under(alloc, Step::Member(Member::By))),
@@ -100,7 +100,7 @@ fn read_all(alloc: Global, values: &[Value]) -> Result<Vec<Agg<String>>, JsonFau
 }
 
 /// The aggregates of each group.
-#[tactic(auto, using(crate::proofs::Readings::reading))]
+#[tactic(auto, using(crate::proofs::Readings::reading), unfolding(crate::specs::QueryDocument::aggs))]
 pub(crate) fn read_aggs(alloc: Global, object: &Value) -> Result<Vec<Agg<String>>, JsonFault>
     ensures ok { IfOk result (λ read. aggs (view object.now) ≡ Ok (map (renamed_agg string_bytes) read.items)) }
     ensures err { IfErr result (Tells (MayReport (aggs (view object.now)))) }

@@ -14,7 +14,7 @@ use query::{Expr, QueryText};
 use std::alloc::Global;
 
 /// The filter, none where it is absent or null.
-#[tactic(auto, using(crate::proofs::Readings::reading))]
+#[tactic(auto, using(crate::proofs::Readings::reading), unfolding(crate::specs::QueryDocument::filter))]
 fn read_filter(alloc: Global, object: &Value) -> Result<Option<Expr<String>>, JsonFault>
     ensures ok { IfOk result (λ read.
         filter (view object.now) ≡ Ok (option_map (renamed string_bytes) (option_map tree_of read))) }

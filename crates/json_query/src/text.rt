@@ -2,7 +2,7 @@
 
 ghost use Rattle.std.specs.Prelude.{◌≡◌, Ok, IfOk, IfErr, string_bytes};
 ghost use Rattle.json_base.specs.Prelude.{IsObject, Tells, view};
-ghost use Rattle.json_query.specs.Reading.{MayReport, required, string_of};
+ghost use Rattle.json_query.specs.Reading.{MayReport, text_in};
 
 use json_base::member::{owned, text_member};
 use json_base::{JsonFault, Member, Value};
@@ -12,8 +12,8 @@ use std::alloc::Global;
 #[tactic(auto, using(crate::proofs::Readings::reading))]
 pub(crate) fn read_text(alloc: Global, object: &Value, member: Member) -> Result<String, JsonFault>
     requires { IsObject (view object.now) }
-    ensures ok { IfOk result (λ text. required member string_of (view object.now) ≡ Ok (string_bytes text)) }
-    ensures err { IfErr result (Tells (MayReport (required member string_of (view object.now)))) }
+    ensures ok { IfOk result (λ text. text_in member (view object.now) ≡ Ok (string_bytes text)) }
+    ensures err { IfErr result (Tells (MayReport (text_in member (view object.now)))) }
 {
     owned(alloc, text_member(alloc, object, member)?)
 }

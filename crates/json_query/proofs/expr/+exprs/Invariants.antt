@@ -1,18 +1,17 @@
-use Rattle.std.proofs.Common.{◌≡◌, ◌+◌, ◌*◌, map, Ok}
-use Rattle.json_base.specs.Prelude.{ReadsFirst, depth, items_depth, items_view, view}
-use Rattle.json_query.specs.QueryExpr.{expr, named_tree}
+use Rattle.std.proofs.Common.{◌≡◌, ◌+◌, ◌*◌, ◌≤◌, ℕ, suc, drop, map, Ok}
+use Rattle.json_base.specs.Prelude.{depth, items_depth, items_view, view}
+use Rattle.json_query.specs.Reading.{each_after}
+use Rattle.json_query.specs.QueryExpr.{expr_within, named_tree, operands}
 use Rattle.json_query.proofs.expr.+exprs.Given as goal
 
 -- the expressions so far are read
-abbrev pub invariant-read_all-loop-index : goal.invariant-read_all-loop-index
-invariant-read_all-loop-index l = ReadsFirst (λ d x. expr d ≡ Ok x) (items_view l.values) l.index (map named_tree l.exprs.items)
+abbrev pub invariant-read_operands-loop-index : goal.invariant-read_operands-loop-index
+invariant-read_operands-loop-index l = (n : ℕ) → items_depth (items_view l.args) ≤ n
+    → operands (expr_within (suc n)) (Ok l.fn.op) (items_view l.args) ≡ each_after (Ok (map named_tree l.exprs.items)) l.index (expr_within (suc n)) (items_view (drop l.index l.args))
 
--- three calls go one level down
+-- two calls go one level down
 abbrev pub decreases-read_expr : goal.decreases-read_expr
-decreases-read_expr l = 3 * depth (view l.value.now) + 1
+decreases-read_expr l = 2 * depth (view l.value.now)
 
-abbrev pub decreases-read_operator : goal.decreases-read_operator
-decreases-read_operator l = 3 * depth (view l.object.now)
-
-abbrev pub decreases-read_all : goal.decreases-read_all
-decreases-read_all l = 3 * items_depth (items_view l.values.now) + 2
+abbrev pub decreases-read_operands : goal.decreases-read_operands
+decreases-read_operands l = 2 * items_depth (items_view l.args.now) + 1
