@@ -26,10 +26,6 @@ pub record IsStoppedIn (before batches : List FileBatch) (fields : List FieldSha
   pub legal : IsLegal fields (added (before ++ take number batches))
   pub stands : handed_cause fields (added (before ++ take number batches)) batch.fields batch.rows ≡ Some refusal
 
--- A batch of the file at a place is refused, after some batches.
-abbrev pub StopsIn : List FileBatch → List FileBatch → List FieldShape → ℕ → RunFault → Type 0
-StopsIn before batches fields place fault = (number : ℕ) × (refusal : Refusal) × (fault ≡ OfFile place (Refused number refusal)) × IsStoppedIn before batches fields number refusal
-
 -- A batch of this file is refused, after those of the files before it.
 pub record IsBatchRefused (files : List FileData) (file number : ℕ) (refusal : Refusal) : Type 0 where
   pub one : FileData

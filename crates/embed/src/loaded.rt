@@ -28,7 +28,7 @@ impl Loaded {
     {
         let files = read_files(alloc, texts)?;
         let state = load_files(alloc, &files)?;
-        Ok(Loaded::of(state))
+        Ok(Loaded { state })
     }
 
     /// The table of this state.

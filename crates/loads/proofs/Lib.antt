@@ -1,6 +1,5 @@
 -- What the proofs of this crate share.
 pub mod PlanLemmas
 pub mod LoadLemmas
-pub mod ReportLemmas
 pub mod RunLemmas
 pub mod SendingLemmas

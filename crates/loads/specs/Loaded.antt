@@ -1,5 +1,5 @@
 -- How far workers come through their files.
-use Rattle.std.specs.Prelude.{◌≡◌, ◌⊎◌, ℕ, ◌%◌, ◌<◌, ◌++◌, IfSome, List, [], ◌∷◌, length, map, slice_get, slice_index_or, take, Option, None, Some, is_some, nat_lt, unwrap_or}
+use Rattle.std.specs.Prelude.{◌≡◌, ◌⊎◌, ℕ, ◌%◌, ◌<◌, ◌++◌, IfSome, List, [], ◌∷◌, length, map, slice_get, slice_index_or, take, Option, None, Some, is_some, nat_lt, if◌then◌else◌, unwrap_or}
 use Rattle.arrays.specs.Prelude.{Batch, FieldShape, File, rows_of}
 use Rattle.shared.specs.Prelude.{Hand, HasAdded, History, IsBeginning, Known, Left, Refusal, batch_cause, calls_of_hand, rows_of_hand, stored_fields, widened}
 use Rattle.shared.specs.Refusals.{NoMemory}
@@ -33,6 +33,10 @@ abbrev pub Loaded : List Batch → Hand → Hand → Type 0
 Loaded [] old new = IsIdle old new
 Loaded (b ∷ bs) old new = (mid : Hand) × HasAdded b old mid × Loaded bs mid new
 
+-- It appended these batches: what it loads from then on is loaded behind them.
+abbrev pub HasAppended : List Batch → Hand → Hand → Type 0
+HasAppended bs old mid = (more : List Batch) (new : Hand) → Loaded more mid new → Loaded (bs ++ more) old new
+
 -- Want of memory is reported, or what stands for the batch after all that is known.
 abbrev pub StandsFor : Known → Batch → Refusal → Type 0
 StandsFor k b refusal = (refusal ≡ NoMemory) ⊎ (batch_cause k.fields k.history b ≡ Some refusal)
@@ -58,9 +62,9 @@ pub record IsStoppedAt (files : List (List Batch)) (workers place : ℕ) (seen :
 abbrev pub HasLast : ℕ → Hand → Option Known → Type 0
 HasLast first h last = is_some last ≡ nat_lt first (calls_of_hand h)
 
--- A receipt that it has is of all that it has seen.
-abbrev pub IsNewest : Hand → Option Known → Type 0
-IsNewest h last = IfSome last (λ r. r ≡ h.seen)
+-- All that it has seen, where it appended anything since it had so many calls.
+abbrev pub seen_since : ℕ → Hand → Option Known
+seen_since first h = if nat_lt first (calls_of_hand h) then Some h.seen else None
 
 -- What is left with it, or else an outcome without receipt and without stop.
 abbrev pub outcome_of : Hand → Left
@@ -71,13 +75,7 @@ pub record IsRun (files : List (List Batch)) (workers place : ℕ) (old new : Ha
   pub stopped : IfSome outcome.stop (IsStoppedAt files workers place new.seen)
   pub loaded : Loaded (before_stop files workers place outcome.stop) old new
   pub last : HasLast (calls_of_hand old) new outcome.last
-  pub newest : outcome.stop ≡ None → IsNewest new outcome.last
-
--- The same, and the outcome is left with it.
-pub record IsLoadedBy (files : List (List Batch)) (workers place : ℕ) (old new : Hand) : Type 0 where
-  pub outcome : Left
-  pub left : new.left ≡ Some outcome
-  pub run : IsRun files workers place old new outcome
+  pub newest : outcome.stop ≡ None → outcome.last ≡ seen_since (calls_of_hand old) new
 
 -- Each worker came as far as its outcome tells, and nothing is left with it.
 pub record AreRun (files : List (List Batch)) (old new : List Hand) (outcomes : List Left) : Type 0 where

@@ -1,10 +1,10 @@
 -- What is reported of the workers' outcomes.
-use Rattle.std.specs.Prelude.{◌≡◌, ◌≢◌, ◌⊎◌, ◌≤◌, All, IfSome, List, Option, None, Some, nat_lt, if◌then◌else◌}
+use Rattle.std.specs.Prelude.{◌≡◌, ◌≢◌, ◌⊎◌, ◌≤◌, All, IfSome, List, Option, None, Some}
 use Rattle.std.specs.List.{Any, filter_map, zip}
 use Rattle.arrays.specs.Batch.{Batch}
 use Rattle.shared.specs.Prelude.{Hand, Known, Left, calls_of_hand}
 use Rattle.shared.specs.Refusals as refusal
-use Rattle.loads.specs.Loaded.{AreRun, Stop}
+use Rattle.loads.specs.Loaded.{AreRun, Stop, seen_since}
 use Rattle.loads.specs.declared.fault.LoadFault.{LoadFault}
 use Rattle.loads.specs.declared.fault.LoadFault.TheVariants.{NoMemory, Refused}
 
@@ -31,6 +31,7 @@ pub record LacksMemory (outcomes : List Left) : Type 0 where
   pub met : Any (λ o. o.stop ≢ None) outcomes
   pub all : All (λ o. IfSome o.stop IsWantOfMemory) outcomes
 
+-- What is to be reported of the outcomes.
 abbrev pub IsReportOf : LoadFault → List Left → Type 0
 IsReportOf (Refused file batch refusal) outcomes = IsLeastReported (file, batch, refusal) outcomes
 IsReportOf NoMemory outcomes = LacksMemory outcomes
@@ -38,11 +39,6 @@ IsReportOf NoMemory outcomes = LacksMemory outcomes
 -- Nobody was stopped.
 abbrev pub AllFinished : List Left → Type 0
 AllFinished outcomes = All (λ o. o.stop ≡ None) outcomes
-
--- What is to be reported of the outcomes, if anything.
-abbrev pub IsReport : Option LoadFault → List Left → Type 0
-IsReport None outcomes = AllFinished outcomes
-IsReport (Some fault) outcomes = IsReportOf fault outcomes
 
 -- What stands against loading: what the outcomes tell, or that there was no room for the answer and nothing was begun.
 abbrev pub StandsAgainstLoading : LoadFault → List (List Batch) → List Hand → List Hand → Type 0
@@ -52,10 +48,6 @@ StandsAgainstLoading fault files old new = ((outcomes : List Left) × AreRun fil
 abbrev pub AreReceipts : List Known → List (List Batch) → List Hand → List Hand → Type 0
 AreReceipts receipts files old new = (outcomes : List Left) × AreRun files old new outcomes × (receipts ≡ last_receipts outcomes)
 
--- What a worker has seen, where it appended anything.
-abbrev pub seen_by_worker : Hand × Hand → Option Known
-seen_by_worker p = if nat_lt (calls_of_hand p.0) (calls_of_hand p.1) then Some p.1.seen else None
-
 -- The receipts are of all that the workers that appended have seen, in order.
 abbrev pub AreNewest : List Known → List Hand → List Hand → Type 0
-AreNewest receipts old new = receipts ≡ filter_map seen_by_worker (zip old new)
+AreNewest receipts old new = receipts ≡ filter_map (λ p. seen_since (calls_of_hand p.0) p.1) (zip old new)

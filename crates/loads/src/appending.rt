@@ -1,7 +1,8 @@
 //! How a worker's batch comes into the table.
 
-ghost use Rattle.std.specs.Prelude.{◌≡◌, ◌∷◌, [], IfErr, IfOk, OnErr, OnOk};
-ghost use Rattle.loads.specs.Loaded.{Loaded, StandsFor};
+ghost use Rattle.std.specs.Prelude.{◌≡◌, IfErr, IfOk, OnErr, OnOk};
+ghost use Rattle.loads.specs.Loaded.{StandsFor};
+ghost use Rattle.shared.specs.Hand.{HasAdded, HasAddedNothing, HasSeen, IsRaised};
 
 use arrays::RecordBatch;
 use crews::Gate;
@@ -19,10 +20,11 @@ pub(crate) trait Append<N: Naming> {
         worker: &mut Worker<N>,
         batch: &RecordBatch,
     ) -> Result<Receipt<N>, Refusal>
-        ensures raised { OnOk result (Loaded (batch.now ∷ []) worker.old worker.new) }
+        ensures raised { OnOk result (IsRaised batch.now.rows worker.old worker.new) }
+        ensures added { OnOk result (HasAdded batch.now worker.old worker.new) }
         ensures receipt { IfOk result (λ r. r ≡ worker.new.seen) }
-        ensures kept { OnErr result (Loaded [] worker.old worker.new) }
-        ensures left { worker.new.left ≡ worker.old.left }
+        ensures kept { OnErr result (HasAddedNothing worker.old worker.new) }
+        ensures seen { OnErr result (HasSeen worker.old worker.new) }
         ensures cause { IfErr result (StandsFor worker.new.seen batch.now) };
 }
 

@@ -1,14 +1,14 @@
 //! Files that are appended by all workers.
 
-ghost use Rattle.std.specs.Prelude.{◌<◌, ℕ, length, slice_index_or};
-ghost use Rattle.loads.specs.Loaded.{IsLoadedBy, batches_of_files};
-ghost use Rattle.shared.specs.Hand.{Hand};
+ghost use Rattle.std.specs.Prelude.{◌≡◌, ◌≤◌, [], length, vec_capacity};
+ghost use Rattle.loads.specs.Loaded.{AreRun, batches_of_files};
 
 use crate::appending::Append;
+use crate::outcomes::take_outcomes;
 use crate::work::work;
 use arrays::File;
 use crews::{Task, run_all};
-use shared::{Naming, Worker};
+use shared::{Naming, Outcome, Worker};
 use std::thread::Threads;
 
 /// Files to be appended to a table by so many workers.
@@ -20,26 +20,29 @@ pub(crate) struct FileLoading<'a, A> {
 }
 
 impl<'a, N: Naming, A: Append<N>> Task<Worker<N>> for FileLoading<'a, A> {
-    ghost use Rattle.loads.specs.Loaded.{IsLoadedBy, batches_of_files};
+    ghost use Rattle.loads.specs.Loaded.{IsRun, batches_of_files, outcome_of};
 
     ghost count = { λ l. l.count };
 
-    ghost does = { λ l place old new. IsLoadedBy (batches_of_files l.files.now) l.count place old new };
+    ghost does = { λ l place old new. IsRun (batches_of_files l.files.now) l.count place old new (outcome_of new) };
 
     fn work(&self, place: usize, worker: &mut Worker<N>) {
         work(self.table, self.files, self.count, place, worker);
     }
 }
 
-/// Has each worker append its files, all of them at once.
-pub(crate) fn append_files<N: Naming + Send + Sync, T: Threads + Sync, A: Append<N> + Sync>(
+/// Has each worker append its files, all of them at once, and takes what was left with each, in order, into a list that is empty
+/// and has room for it.
+pub(crate) fn run_files<N: Naming + Send + Sync, T: Threads + Sync, A: Append<N> + Sync>(
     threads: &T,
     table: &A,
     files: &[File],
     workers: &mut [Worker<N>],
+    outcomes: &mut Vec<Outcome<N>>,
 )
-    ensures { (place : ℕ) (d : Hand) → place < length workers.old
-        → IsLoadedBy (batches_of_files files.now) (length workers.old) place (slice_index_or workers.old place d) (slice_index_or workers.new place d) }
+    requires empty { outcomes.old.items ≡ [] }
+    requires room { length workers.old ≤ vec_capacity outcomes.old }
+    ensures { AreRun (batches_of_files files.now) workers.old workers.new outcomes.new.items }
 {
     let count = workers.len();
     let loading = FileLoading {
@@ -48,4 +51,5 @@ pub(crate) fn append_files<N: Naming + Send + Sync, T: Threads + Sync, A: Append
         count,
     };
     run_all(threads, workers, &loading);
+    take_outcomes(workers, outcomes);
 }

@@ -6,8 +6,8 @@ ghost use Rattle.loads.specs.Report.{AreNewest, AreReceipts, StandsAgainstLoadin
 
 use crate::appending::Gated;
 use crate::fault::LoadFault;
-use crate::file_loading::append_files;
-use crate::outcomes::{fault_of, push_receipts, take_outcomes};
+use crate::file_loading::run_files;
+use crate::outcomes::receipts_of;
 use arrays::File;
 use crews::Gate;
 use shared::{Naming, Publish, Receipt, SharedTable, Shown, Worker};
@@ -49,14 +49,9 @@ pub fn load_all<
     ensures err { IfErr result (λ e. StandsAgainstLoading e (batches_of_files files.now) workers.old workers.new) }
 {
     let count = workers.len();
-    let mut receipts = Vec::with_capacity(alloc, count)?;
+    let receipts = Vec::with_capacity(alloc, count)?;
     let mut outcomes = Vec::with_capacity(alloc, count)?;
     let gated = Gated { wait, table, gate };
-    append_files(threads, &gated, files, workers);
-    take_outcomes(workers, &mut outcomes);
-    if let Some(fault) = fault_of(&outcomes) {
-        return Err(fault);
-    }
-    push_receipts(&outcomes, &mut receipts);
-    Ok(receipts)
+    run_files(threads, &gated, files, workers, &mut outcomes);
+    receipts_of(&outcomes, receipts)
 }

@@ -1,9 +1,9 @@
 //! What is reported of the workers' outcomes.
 
-ghost use Rattle.std.specs.Prelude.{◌≡◌, ◌≢◌, ◌+◌, ◌≤◌, ◌++◌, ◌∷◌, [], List, Some, None, length, map, IsTrue, IsFalse, vec_capacity, vec_len};
+ghost use Rattle.std.specs.Prelude.{◌≡◌, ◌≢◌, ◌+◌, ◌<◌, ◌≤◌, ◌++◌, ◌∷◌, [], IfErr, IfOk, List, None, OnOk, length, map, IsTrue, IsFalse, vec_capacity, vec_len};
 ghost use Rattle.std.specs.List.{AllZip, Any};
 ghost use Rattle.loads.specs.Loaded.{outcome_of};
-ghost use Rattle.loads.specs.Report.{AllFinished, IsLeastStopOf, IsReport, last_receipts};
+ghost use Rattle.loads.specs.Report.{AllFinished, IsLeastStopOf, IsReportOf, last_receipts};
 ghost use Rattle.shared.specs.Prelude.{IsLeft, Left};
 
 use crate::fault::LoadFault;
@@ -24,21 +24,22 @@ pub(crate) fn take_outcomes<N: Naming>(workers: &mut [Worker<N>], outcomes: &mut
     take_outcomes(rest, outcomes);
 }
 
-/// What is to be reported of the outcomes, if anything.
-pub(crate) fn fault_of<N: Naming>(outcomes: &[Outcome<N>]) -> Option<LoadFault>
-    ensures { IsReport result outcomes.now }
+/// Nobody was stopped, or else what is to be reported.
+fn check_outcomes<N: Naming>(outcomes: &[Outcome<N>]) -> Result<(), LoadFault>
+    ensures ok { OnOk result (AllFinished outcomes.now) }
+    ensures err { IfErr result (λ e. IsReportOf e outcomes.now) }
 {
     if let Some((file, batch, refusal)) = least_stop(outcomes) {
-        return Some(LoadFault::Refused {
+        return Err(LoadFault::Refused {
             file,
             batch,
             refusal,
         });
     }
     if any_stopped(outcomes) {
-        return Some(LoadFault::NoMemory);
+        return Err(LoadFault::NoMemory);
     }
-    None
+    Ok(())
 }
 
 /// Whether any worker was stopped.
@@ -60,21 +61,21 @@ fn least_stop<N: Naming>(outcomes: &[Outcome<N>]) -> Option<(usize, usize, Refus
 {
     let mut least = None;
     for outcome in outcomes {
-        if let Some(stop) = outcome.stop() {
-            least = lesser(least, stop);
-        }
+        least = lesser(least, outcome.stop());
     }
     least
 }
 
-/// The least stop, where this was, and another worker was stopped so.
+/// The least stop, where this was, and another worker was stopped so, or not at all.
 fn lesser(
     least: Option<(usize, usize, Refusal)>,
-    stop: (usize, usize, Refusal),
+    stop: Option<(usize, usize, Refusal)>,
 ) -> Option<(usize, usize, Refusal)>
-    ensures { (outcomes : List Left) (o : Left) → o.stop ≡ Some stop → IsLeastStopOf least outcomes → IsLeastStopOf result (outcomes ++ o ∷ []) }
+    ensures { (outcomes : List Left) (o : Left) → o.stop ≡ stop → IsLeastStopOf least outcomes → IsLeastStopOf result (outcomes ++ o ∷ []) }
 {
-    let (file, _, refusal) = stop;
+    let Some((file, _, refusal)) = stop else {
+        return least;
+    };
     if let Refusal::NoMemory = refusal {
         return least;
     }
@@ -83,17 +84,33 @@ fn lesser(
             return least;
         }
     }
-    Some(stop)
+    stop
 }
 
-/// Appends the receipts of the last batches to a list that has room for them.
-pub(crate) fn push_receipts<N: Naming>(outcomes: &[Outcome<N>], receipts: &mut Vec<Receipt<N>>)
-    requires { vec_len receipts.old + length outcomes.now ≤ vec_capacity receipts.old }
-    ensures { receipts.new.items ≡ receipts.old.items ++ last_receipts outcomes.now }
+/// The receipts of the last batches, in a list that is empty and has room for them, or what is to be reported.
+pub(crate) fn receipts_of<N: Naming>(
+    outcomes: &[Outcome<N>],
+    mut receipts: Vec<Receipt<N>>,
+) -> Result<Vec<Receipt<N>>, LoadFault>
+    requires empty { receipts.items ≡ [] }
+    requires room { length outcomes.now ≤ vec_capacity receipts }
+    ensures ok { IfOk result (λ v. AllFinished outcomes.now × (v.items ≡ last_receipts outcomes.now)) }
+    ensures err { IfErr result (λ e. IsReportOf e outcomes.now) }
 {
+    check_outcomes(outcomes)?;
     for outcome in outcomes {
-        if let Some(receipt) = outcome.last() {
-            receipts.push(receipt.again()).unwrap();
-        }
+        push_last(outcome, &mut receipts);
+    }
+    Ok(receipts)
+}
+
+/// Appends the receipt of an outcome's last batch, if there is one, to a list that has room for it.
+fn push_last<N: Naming>(outcome: &Outcome<N>, receipts: &mut Vec<Receipt<N>>)
+    requires { vec_len receipts.old < vec_capacity receipts.old }
+    ensures items { receipts.new.items ≡ receipts.old.items ++ last_receipts (outcome.now ∷ []) }
+    ensures room { vec_len receipts.new + vec_capacity receipts.old ≤ vec_len receipts.old + 1 + vec_capacity receipts.new }
+{
+    if let Some(receipt) = outcome.last() {
+        receipts.push(receipt.again()).unwrap();
     }
 }

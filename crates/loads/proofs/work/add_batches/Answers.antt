@@ -1,38 +1,37 @@
-use Rattle.std.proofs.Common.{◌≡◌, ◌∙◌, ◌<◌, ◌∷◌, [], length, map, take, arith}
+use Rattle.std.proofs.Common.{map, subst, take, arith}
+use Rattle.std.proofs.lemmas.Bool.Decides.{nat_tests}
+use Rattle.std.proofs.lemmas.List.{length-map, take_all}
 use Rattle.std.specs.Arc.{arc_value}
-use Rattle.loads.proofs.LoadLemmas.{has_loaded, last_some, loaded_end, loaded_more, loaded_stay, mapped_at, mapped_length, stands_at}
+use Rattle.loads.specs.Loaded.{HasAppended}
+use Rattle.loads.proofs.LoadLemmas.{appended_end, appended_next, value_at}
 use Rattle.loads.proofs.work.add_batches.Goals as goal
 
 pub loop-number-preserved : goal.loop-number-preserved
 loop-number-preserved g c =
-    let bs = map arc_value c.args.batches.now in
+    let at = c.loop-number in
     let b = c.deref.result.now in
-    let n = c.loop-number.number in
-    let mid = c.loop-number.worker in
-    let new = c.append.new.worker in
-    let below : n < length bs = omega (arith, c.loop-number-test.true, mapped_length arc_value c.args.batches.now) in
-    let few = c.loop-number.invariant.first in
-    let more = (has_loaded (b ∷ []) mid new c.in-Ok.ensures.raised).calls in record {
-      loaded = loaded_more bs n b c.args.worker.now mid new below (mapped_at arc_value c.args.batches.now n c.index-batches-number.result b c.index-batches-number.is c.deref.ensures)
-          c.loop-number.invariant.left c.loop-number.invariant.loaded c.in-Ok.ensures.raised;
-      last = last_some c.args.first b mid new c.in-Ok.receipt few c.in-Ok.ensures.raised;
-      newest = c.in-Ok.ensures.receipt;
-      first = omega (arith, few, more);
-      left = c.append.ensures.left ∙ c.loop-number.invariant.left;
+    let new = c.append.new.worker in record {
+      appended = appended_next (map arc_value c.args.batches.now) at.number b c.args.worker.now at.worker new
+          (value_at arc_value c.args.batches.now at.number c.index-batches-number.result b c.loop-number-test.true c.index-batches-number.is c.deref.ensures) at.invariant.appended c.in-Ok.ensures.added;
+      first = omega (arith, at.invariant.first, c.in-Ok.ensures.raised.calls);
+      last = grind (arith, nat_tests, c.in-Ok.ensures.receipt, c.in-Ok.ensures.raised.calls);
     }
+
+pub returns-in-Err-clause-loaded : goal.returns-in-Err-clause-loaded
+returns-in-Err-clause-loaded g c =
+    let at = c.loop-number in
+    let kept = c.in-Err.ensures.kept in
+    let seen = c.in-Err.ensures.seen in
+    appended_end (take at.number (map arc_value c.args.batches.now)) c.args.worker.now at.worker c.append.new.worker at.invariant.appended
+    (record { number = seen.number; calls = kept.calls; rows = kept.rows; mine = seen.mine; columns = seen.columns; begun = seen.begun })
 
 pub returns-in-Err-clause-stopped : goal.returns-in-Err-clause-stopped
 returns-in-Err-clause-stopped g c =
-    loaded_stay (take c.loop-number.number (map arc_value c.args.batches.now)) c.args.worker.now c.loop-number.worker c.append.new.worker c.loop-number.invariant.left
-    c.loop-number.invariant.loaded c.in-Err.ensures.kept
+    let b = c.deref.result.now in
+    (b, value_at arc_value c.args.batches.now c.loop-number.number c.index-batches-number.result b c.loop-number-test.true c.index-batches-number.is c.deref.ensures, c.in-Err.ensures.cause)
 
-pub returns-in-Err-clause-stands : goal.returns-in-Err-clause-stands
-returns-in-Err-clause-stands g c =
-    stands_at arc_value c.args.batches.now c.loop-number.number c.index-batches-number.result c.deref.result.now c.append.new.worker.seen c.in-Err.refusal c.loop-number-test.true c.index-batches-number.is
-    c.deref.ensures c.in-Err.ensures.cause
-
-pub returns-clause-loaded : goal.returns-clause-loaded
-returns-clause-loaded g c =
-    let bs = map arc_value c.args.batches.now in
-    let end : c.loop-number.number ≡ length bs = omega (arith, c.loop-number-test.false, c.loop-number.auto.number-end, mapped_length arc_value c.args.batches.now) in
-    loaded_end bs c.loop-number.number c.args.worker.now c.loop-number.worker end c.loop-number.invariant.loaded
+pub returns-clause-appended : goal.returns-clause-appended
+returns-clause-appended g c =
+    let at = c.loop-number in
+    let all = take_all at.number (map arc_value c.args.batches.now) (omega (arith, c.loop-number-test.false, length-map c.args.batches.now arc_value)) in
+    subst (λ l. HasAppended l c.args.worker.now at.worker) all at.invariant.appended
