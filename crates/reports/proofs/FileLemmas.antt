@@ -1,5 +1,5 @@
 -- The batches of files, as the files' bytes say them.
-use Rattle.std.proofs.Common.{◌≡◌, ◌∙◌, ℕ, List, [], ◌∷◌, get_or, map, ap, sym, refl}
+use Rattle.std.proofs.Common.{◌≡◌, ℕ, List, [], ◌∷◌, get_or, map, ap, sym, refl}
 use Rattle.std.proofs.lemmas.Simd.{map-map}
 use Rattle.std.specs.List.{AllByRecursion, range_with_len}
 use Rattle.arrays.specs.Batch as batch
@@ -22,7 +22,4 @@ seen_under fields bs = batches_with_fields (record { fields = fields; tables = m
 
 pub file-listed : (fields : List FieldShape) (bs : List Batch) → AreUnder fields bs → seen_under fields bs ≡ map batch_of bs
 file-listed fields [] under = refl
-file-listed fields (b ∷ bs) under =
-    ap (λ (fs : List FieldShape). record { fields = fs; rows = read.rows_of (table_of b) } ∷ seen_under fields bs) (sym under.0)
-    ∙ ap (λ (t : batch.Table). record { fields = b.fields; rows = t } ∷ seen_under fields bs) (rows_of_table b)
-    ∙ ap (λ (l : List FileBatch). batch_of b ∷ l) (file-listed fields bs under.1)
+file-listed fields (b ∷ bs) under = λ i. record { fields = sym under.0 i; rows = rows_of_table b i } ∷ file-listed fields bs under.1 i

@@ -1,13 +1,13 @@
 -- Texts that are parsed at once, and reported in order.
 use Rattle.std.proofs.Common.{◌≡◌, ◌∙◌, ℕ, suc, ◌<◌, List, [], ◌∷◌, ◌++◌, append_assoc, append-nil, length, map, Result, Ok, Err, inl, inr, slice_index_or, ap, sym, refl, subst, arith}
-use Rattle.std.proofs.lemmas.List.{length-append}
+use Rattle.std.proofs.lemmas.List.{length-append, map-append, nil_from_length}
 use Rattle.std.proofs.lemmas.Slice.Zip.{AllZip-long}
 use Rattle.std.specs.Prelude.{◌⊎◌}
 use Rattle.std.specs.List.{AllByRecursion, AllZip}
 use Rattle.arrays.specs.File.{File}
 use Rattle.arrow_json.specs.Prelude.{AreUnder, BytesFault, JsonFault, Tells, stands, wants}
 use Rattle.arrow_json.specs.JsonFaultKinds.{NoMemory as wanting}
-use Rattle.reports.specs.Prelude.{AddsFiles, IsFirstUnread, IsParsed, IsTextOf, OrMemory, StopsParsing}
+use Rattle.reports.specs.Prelude.{AddsFiles, IsParsed, IsTextOf, OrMemory, StopsParsing}
 use Rattle.reports.specs.declared.run_fault.FileFault.TheVariants.{Json}
 use Rattle.reports.specs.declared.run_fault.RunFault.{RunFault}
 use Rattle.reports.specs.declared.run_fault.RunFault.TheVariants.{NoMemory, OfFile}
@@ -28,44 +28,34 @@ zip_map f R [] (y ∷ ys) all = absurd all
 zip_map f R (v ∷ vs) [] all = absurd all
 zip_map f R (v ∷ vs) (y ∷ ys) all = (all.0, zip_map f R vs ys all.1)
 
-pub zip_more : {X Y : Type 0} (R : X → Y → Type 0) (xs : List X) (ys : List Y) (x : X) (y : Y) → AllZip R xs ys → R x y → AllZip R (xs ++ x ∷ []) (ys ++ y ∷ [])
-zip_more R [] [] x y all r = (r, tt)
-zip_more R [] (b ∷ bs) x y all r = absurd all
-zip_more R (a ∷ rest) [] x y all r = absurd all
-zip_more R (a ∷ rest) (b ∷ bs) x y all r = (all.0, zip_more R rest bs x y all.1 r)
-
--- The files of the front of the texts were added, and these are what the others were parsed to.
+-- The files of the first texts were added, and these are what the others were parsed to.
 pub record AddsSoFar (texts : List (List ℕ)) (old files : List File) (rest : List Parsed) : Type 0 where
-  pub front : List (List ℕ)
-  pub back : List (List ℕ)
-  pub is : texts ≡ front ++ back
   pub added : List File
   pub files_are : files ≡ old ++ added
-  pub read : AllZip IsTextOf front added
-  pub parsed : AllZip IsParsed back rest
+  pub parsed : AllZip IsParsed texts (map (λ f. Ok f) added ++ rest)
 
 pub AddsSoFar-none : (texts : List (List ℕ)) (old : List File) (rest : List Parsed) → AllZip IsParsed texts rest → AddsSoFar texts old old rest
-AddsSoFar-none texts old rest all = record { front = []; back = texts; is = refl; added = []; files_are = sym (append-nil old); read = tt; parsed = all }
-
--- the text of what was parsed first, and the others
-first_of : (back : List (List ℕ)) (p : Parsed) (rest : List Parsed) → AllZip IsParsed back (p ∷ rest)
-    → (text : List ℕ) × (others : List (List ℕ)) × (back ≡ text ∷ others) × IsParsed text p × AllZip IsParsed others rest
-first_of [] p rest all = absurd all
-first_of (text ∷ others) p rest all = (text, others, refl, all.0, all.1)
+AddsSoFar-none texts old rest all = record { added = []; files_are = sym (append-nil old); parsed = all }
 
 pub AddsSoFar-more : (texts : List (List ℕ)) (old files new : List File) (rest later : List Parsed) (f : File) → AddsSoFar texts old files rest → rest ≡ Ok f ∷ later → new ≡ files ++ f ∷ []
     → AddsSoFar texts old new later
-AddsSoFar-more texts old files new rest later f so_far next pushed =
-    let first = first_of so_far.back (Ok f) later (subst (AllZip IsParsed so_far.back) next so_far.parsed) in
-    record {
-      front = so_far.front ++ first.0 ∷ [];
-      back = first.1;
-      is = so_far.is ∙ ap (λ l. so_far.front ++ l) first.2 ∙ sym (append_assoc so_far.front (first.0 ∷ []) first.1);
-      added = so_far.added ++ f ∷ [];
-      files_are = pushed ∙ ap (λ l. l ++ f ∷ []) so_far.files_are ∙ append_assoc old so_far.added (f ∷ []);
-      read = zip_more IsTextOf so_far.front so_far.added first.0 f so_far.read first.3;
-      parsed = first.4;
-    }
+AddsSoFar-more texts old files new rest later f so_far next pushed = record {
+  added = so_far.added ++ f ∷ [];
+  files_are = pushed ∙ ap (λ l. l ++ f ∷ []) so_far.files_are ∙ append_assoc old so_far.added (f ∷ []);
+  parsed = rw (map-append, append_assoc) (rw next at so_far.parsed);
+}
+
+-- the texts of the files, and the others
+split : (texts : List (List ℕ)) (added : List File) (rest : List Parsed) → AllZip IsParsed texts (map (λ f. Ok f) added ++ rest)
+    → (front : List (List ℕ)) × (back : List (List ℕ)) × (texts ≡ front ++ back) × AllZip IsTextOf front added × AllZip IsParsed back rest
+split texts [] rest all = ([], texts, refl, tt, all)
+split [] (f ∷ added) rest all = absurd all
+split (t ∷ texts) (f ∷ added) rest all = let s = split texts added rest all.1 in (t ∷ s.0, s.1, ap (λ l. t ∷ l) s.2, (all.0, s.3), s.4)
+
+-- the text of what was parsed first of them
+first_of : (back : List (List ℕ)) (p : Parsed) (rest : List Parsed) → AllZip IsParsed back (p ∷ rest) → (text : List ℕ) × (others : List (List ℕ)) × (back ≡ text ∷ others) × IsParsed text p
+first_of [] p rest all = absurd all
+first_of (text ∷ others) p rest all = (text, others, refl, all.0)
 
 -- the files of texts have their batches under their schemas
 pub texts_under : (texts : List (List ℕ)) (files : List File) → AllZip IsTextOf texts files → AllByRecursion (λ f. AreUnder f.fields f.batches) files
@@ -79,33 +69,31 @@ pub reported_stands : (text : List ℕ) (e : JsonFault) → (e.kind ≡ wanting 
 reported_stands text e other (stands s) = s
 reported_stands text e other (wants is) = absurd (other (ap (λ (f : JsonFault). f.kind) is))
 
-pub AddsSoFar-stops : (texts : List (List ℕ)) (old files : List File) (rest later : List Parsed) (e : JsonFault) → AddsSoFar texts old files rest → rest ≡ Err e ∷ later → (e.kind ≡ wanting → ⊥)
-    → IsFirstUnread texts (length old) (length files) e
-AddsSoFar-stops texts old files rest later e so_far next other =
-    let first = first_of so_far.back (Err e) later (subst (AllZip IsParsed so_far.back) next so_far.parsed) in
-    record {
-      front = so_far.front;
-      text = first.0;
-      rest = first.1;
-      files = so_far.added;
-      is = so_far.is ∙ ap (λ l. so_far.front ++ l) first.2;
-      read = so_far.read;
-      place = omega (arith, ap (λ l. length l) so_far.files_are, length-append old so_far.added, AllZip-long _ so_far.front so_far.added so_far.read);
-      stands = reported_stands first.0 e other first.3;
-    }
-
 pub reported_stops : (texts : List (List ℕ)) (old files : List File) (rest later : List Parsed) (e : JsonFault) (place : ℕ) (reported : RunFault) → AddsSoFar texts old files rest → rest ≡ Err e ∷ later → place ≡ length files
     → (reported ≡ NoMemory) ⊎ ((e.kind ≡ wanting → ⊥) × (reported ≡ OfFile place (Json e))) → OrMemory (StopsParsing texts (length old)) reported
 reported_stops texts old files rest later e place reported so_far next here (inl is) = inl is
 reported_stops texts old files rest later e place reported so_far next here (inr is) =
-    inr (place, e, is.1, subst (λ k. IsFirstUnread texts (length old) k e) (sym here) (AddsSoFar-stops texts old files rest later e so_far next is.0))
+    let s = split texts so_far.added rest so_far.parsed in
+    let first = first_of s.1 (Err e) later (subst (AllZip IsParsed s.1) next s.4) in
+    inr (
+      place,
+      e,
+      is.1,
+      record {
+        front = s.0;
+        text = first.0;
+        rest = first.1;
+        files = so_far.added;
+        is = s.2 ∙ ap (λ l. s.0 ++ l) first.2;
+        read = s.3;
+        place = omega (arith, here, ap (λ l. length l) so_far.files_are, length-append old so_far.added, AllZip-long _ s.0 so_far.added s.3);
+        stands = reported_stands first.0 e is.0 first.3;
+      },
+    )
 
 -- nothing is left: all were added
 pub AddsSoFar-whole : (texts : List (List ℕ)) (old files : List File) (rest : List Parsed) → AddsSoFar texts old files rest → length rest ≡ 0 → AddsFiles texts old files
 AddsSoFar-whole texts old files rest so_far none =
-    let all : texts ≡ so_far.front = so_far.is ∙ ap (λ l. so_far.front ++ l) (empty so_far.back (omega (arith, none, AllZip-long _ so_far.back rest so_far.parsed))) ∙ append-nil so_far.front in
-    (so_far.added, so_far.files_are, subst (λ ts. AllZip IsTextOf ts so_far.added) (sym all) so_far.read)
-  where
-    empty : (xs : List (List ℕ)) → length xs ≡ 0 → xs ≡ []
-    empty [] h = refl
-    empty (x ∷ xs) h = absurd (omega (arith, h))
+    let s = split texts so_far.added rest so_far.parsed in
+    let all : texts ≡ s.0 = s.2 ∙ ap (λ l. s.0 ++ l) (nil_from_length s.1 (omega (arith, none, AllZip-long _ s.1 rest s.4))) ∙ append-nil s.0 in
+    (so_far.added, so_far.files_are, subst (λ ts. AllZip IsTextOf ts so_far.added) (sym all) s.3)

@@ -1,10 +1,11 @@
 -- The lines of faults, by what they are faults of.
-use Rattle.std.specs.Prelude.{ℕ, List}
-use Rattle.reports.specs.AddFaultText.{add_fault_text}
+use Rattle.std.specs.Prelude.{ℕ, List, codes}
 use Rattle.reports.specs.Lines.{column_fault_line, unread_line, file_line, query_line, refusal_line}
 use Rattle.ends.specs.Line.{memory_line}
 use Rattle.arrow_json.specs.Prelude.{fault_text}
 use Rattle.table.specs.Prelude.{query_fault_text}
+use Rattle.table.specs.declared.add_fault.AddFault.{AddFault}
+use Rattle.table.specs.declared.add_fault.AddFault.TheVariants as add
 use Rattle.reports.specs.declared.run_fault.ColumnFault.{ColumnFault}
 use Rattle.reports.specs.declared.run_fault.ColumnFault.TheVariants as column
 use Rattle.reports.specs.declared.run_fault.ColumnFault.TheVariants.{Unread}
@@ -18,6 +19,13 @@ abbrev pub fault_line : List ℕ → FileFault → List ℕ
 fault_line name CannotRead = unread_line name
 fault_line name (Json f) = file_line name f.kind f.path
 fault_line name (Refused number refusal) = refusal_line name number refusal
+
+-- Why no column is added.
+abbrev pub add_fault_text : AddFault → List ℕ
+add_fault_text add.NotNullable = codes "N1 NotNullable"
+add_fault_text add.TooDeep = codes "N2 TooDeep"
+add_fault_text add.DictInList = codes "N3 DictInList"
+add_fault_text add.NoMemory = codes "N4 NoMemory"
 
 -- What is reported of a fault of the column.
 abbrev pub column_fault_text : ColumnFault → List ℕ

@@ -1,28 +1,28 @@
 -- The output of `query`: the items of each group's key and then its aggregates, as a line, an array of JSON or a record of CSV.
-use Rattle.std.specs.Prelude.{ℕ, List, [], ◌∷◌, ◌++◌, Bool, true, codes, cond, map}
+use Rattle.std.specs.Prelude.{ℕ, List, ◌++◌, codes, map}
 use Rattle.std.specs.List.{flat_map, join_with_byte}
 use Rattle.table.specs.Prelude.{Agg, Count, Greatest, GroupShape, Least, QueryShape, Rows, Sum}
 use Rattle.arrays.specs.Prelude.{Item}
 use Rattle.ends.specs.Line.{line}
 use Rattle.reports.specs.Csv.{csv_cell, csv_record, csv_text}
 use Rattle.reports.specs.Shown.{array_text, cell}
-use Rattle.reports.specs.declared.forms.Spelling.{Spelling}
-use Rattle.reports.specs.declared.forms.Spelling.TheVariants.{Json, Csv}
+use Rattle.reports.specs.declared.forms.Form.{Form}
+use Rattle.reports.specs.declared.forms.Form.TheVariants.{Array, Line, Record}
 
--- The items, spelled so, with a byte between each two.
-abbrev pub group_text : (Item → List ℕ) → ℕ → GroupShape → List ℕ
-group_text spell separator g = join_with_byte separator (map spell (g.keys ++ g.cells))
+-- The items of a group: those of its key, and then its aggregates.
+abbrev pub group_items : GroupShape → List Item
+group_items g = g.keys ++ g.cells
 
 -- A line, with one space between each two.
 abbrev pub group_line : GroupShape → List ℕ
-group_line g = line (group_text cell 32 g)
+group_line g = line (join_with_byte 32 (map cell (group_items g)))
 
 abbrev pub group_lines : List GroupShape → List ℕ
 group_lines groups = flat_map group_line groups
 
 -- An array of JSON.
 abbrev pub group_array : GroupShape → List ℕ
-group_array g = line (array_text (map cell (g.keys ++ g.cells)))
+group_array g = line (array_text (map cell (group_items g)))
 
 abbrev pub group_arrays : List GroupShape → List ℕ
 group_arrays groups = flat_map group_array groups
@@ -44,18 +44,21 @@ abbrev pub names_record : QueryShape (List ℕ) → List ℕ
 names_record q = csv_record (map csv_text (column_names q))
 
 abbrev pub group_record : GroupShape → List ℕ
-group_record g = csv_record (map csv_cell (g.keys ++ g.cells))
+group_record g = csv_record (map csv_cell (group_items g))
 
 abbrev pub group_records : QueryShape (List ℕ) → List GroupShape → List ℕ
 group_records q groups = names_record q ++ flat_map group_record groups
 
 -- ---- in the making
 
-abbrev pub spell : Spelling → Item → List ℕ
-spell Json = cell
-spell Csv = csv_cell
+-- How a form spells an item.
+abbrev pub spell : Form → Item → List ℕ
+spell Line = cell
+spell Array = cell
+spell Record = csv_cell
 
--- Texts with a byte between each two, and before the first where something came before.
-abbrev pub joined_behind : ℕ → Bool → List (List ℕ) → List ℕ
-joined_behind c behind [] = []
-joined_behind c behind (t ∷ ts) = cond behind (c ∷ []) [] ++ (t ++ joined_behind c true ts)
+-- A group in a form.
+abbrev pub form_of : Form → GroupShape → List ℕ
+form_of Line = group_line
+form_of Array = group_array
+form_of Record = group_record

@@ -1,6 +1,5 @@
 -- The words of this crate's contracts.
 pub use Rattle.ends.specs.Line
-pub mod RefusalText
 pub mod Shown
 pub mod Csv
 pub mod GroupLines
@@ -9,7 +8,6 @@ pub mod Queried
 pub mod Exported
 pub mod Fields
 pub mod FileBatches
-pub mod AddFaultText
 pub mod Lines
 pub mod FaultLine
 pub mod OrMemory

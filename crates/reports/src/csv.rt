@@ -1,5 +1,5 @@
 //! Texts, values and names as fields of CSV.
-ghost use Rattle.std.specs.Prelude.{◌≡◌, ◌||◌, ◌∷◌, ◌++◌, ◌<◌, IfOk, OnOk, [], cond, map, nat_lt, string_bytes};
+ghost use Rattle.std.specs.Prelude.{◌≡◌, ◌∷◌, ◌++◌, ◌<◌, IfOk, OnOk, [], cond, map, nat_lt, string_bytes};
 ghost use Rattle.std.specs.Str.{chars};
 ghost use Rattle.std.specs.Prelude.{flat_map};
 ghost use Rattle.std.specs.List.{join_with_byte, list_any};
@@ -72,12 +72,13 @@ fn called(alloc: Global, head: &str, column: &str) -> Result<String, AllocError>
 }
 
 /// Adds texts as fields, with one comma between.
+#[tactic(auto, using(crate::proofs::JoinLemmas::joined))]
 fn push_texts(text: &mut String, values: &[String]) -> Result<(), AllocError>
     ensures { OnOk result (string_bytes text.new
         ≡ string_bytes text.old ++ join_with_byte 44 (map csv_text (map string_bytes values.now))) }
 {
     for i in 0..values.len() {
-        push_between(text, b',', false, i)?;
+        push_between(text, b',', i)?;
         push_text(text, &values[i])?;
     }
     Ok(())
@@ -128,6 +129,7 @@ fn is_special(byte: u8) -> bool
 }
 
 /// Adds a text, each quote in it twice.
+#[tactic(auto, using(std::proofs::lemmas::List::flat_map_more))]
 fn push_doubled(text: &mut String, value: &str) -> Result<(), AllocError>
     ensures { OnOk result (string_bytes text.new ≡ string_bytes text.old ++ flat_map doubled_char (chars value.now)) }
 {
@@ -148,17 +150,12 @@ fn push_char(text: &mut String, c: char) -> Result<(), AllocError>
     }
 }
 
-/// Adds a byte of ASCII before the item at a place, unless it is the first and nothing came before.
-pub(crate) fn push_between(
-    text: &mut String,
-    byte: u8,
-    behind: bool,
-    place: usize,
-) -> Result<(), AllocError>
+/// Adds a byte of ASCII before the item at a place, unless it is the first.
+pub(crate) fn push_between(text: &mut String, byte: u8, place: usize) -> Result<(), AllocError>
     requires { byte < 128 }
-    ensures { OnOk result (string_bytes text.new ≡ string_bytes text.old ++ cond (behind || nat_lt 0 place) (byte ∷ []) []) }
+    ensures { OnOk result (string_bytes text.new ≡ string_bytes text.old ++ cond (nat_lt 0 place) (byte ∷ []) []) }
 {
-    if behind || place > 0 {
+    if place > 0 {
         push_byte(text, byte)?;
     }
     Ok(())

@@ -1,8 +1,7 @@
 //! Faults as lines.
 ghost use Rattle.std.specs.Prelude.{◌≡◌, ◌++◌, IfOk, codes, string_bytes};
-ghost use Rattle.reports.specs.AddFaultText.{add_fault_text};
 ghost use Rattle.reports.specs.Lines.{column_fault_line, unread_line, file_line, query_line, refusal_line};
-ghost use Rattle.reports.specs.FaultLine.{column_fault_text, fault_line, line_under};
+ghost use Rattle.reports.specs.FaultLine.{add_fault_text, column_fault_text, fault_line, line_under};
 
 use crate::name::push_name;
 use crate::refusal::refusal_text;

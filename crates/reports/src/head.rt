@@ -1,10 +1,10 @@
 //! The output of `head`.
-ghost use Rattle.std.specs.Prelude.{◌≡◌, ◌++◌, ◌-◌, ◌<◌, ◌≤◌, All, IfOk, OnOk, length, map, option_copied, slice_index_or, string_bytes, take, true};
+ghost use Rattle.std.specs.Prelude.{◌≡◌, ◌++◌, ◌-◌, ◌<◌, All, IfOk, OnOk, length, map, option_copied, slice_index_or, string_bytes, take};
 ghost use Rattle.std.specs.List.{flat_map, join_with_byte, zip};
-ghost use Rattle.arrays.specs.Prelude.{field_of, fields_of, is_list, item_of, item_of_bool, item_of_text, null, row_of, rows_of};
+ghost use Rattle.arrays.specs.Prelude.{field_of, fields_of, item_of, item_of_bool, item_of_text, list, list_of, null, row_of, rows_of};
 ghost use Rattle.table.specs.Lawful.{IsStored};
 ghost use Rattle.reports.specs.Rows.{first_lines, member_text, row_line};
-ghost use Rattle.reports.specs.Shown.{array_text, cell};
+ghost use Rattle.reports.specs.Shown.{cell};
 
 use crate::csv::{push_between, push_byte};
 use crate::text::{push_null, push_number, push_string, push_truth};
@@ -40,27 +40,10 @@ fn push_first_rows(
     ensures left { IfOk result (λ more. more ≡ left - batch.now.rows) }
 {
     let count = left.min(u64::from(batch.rows()));
-    push_rows(alloc, text, fields, batch, count as usize)?;
-    Ok(left - count)
-}
-
-/// Adds so many rows of a batch, from the first on.
-fn push_rows(
-    alloc: Global,
-    text: &mut String,
-    fields: &[Field],
-    batch: &RecordBatch,
-    count: usize,
-) -> Result<(), NoMemory>
-    requires stored { IsStored (fields_of fields.now) batch.now }
-    requires few { count ≤ batch.now.rows }
-    ensures { OnOk result (string_bytes text.new
-        ≡ string_bytes text.old ++ flat_map (row_line (fields_of fields.now)) (take count (rows_of batch.now))) }
-{
-    for row in 0..count {
+    for row in 0..count as usize {
         push_row(alloc, text, fields, batch.columns(), row)?;
     }
-    Ok(())
+    Ok(left - count)
 }
 
 /// Adds a row of columns, each under its field.
@@ -83,6 +66,7 @@ fn push_row(
 }
 
 /// Adds the members of a row, with one comma between.
+#[tactic(auto, using(crate::proofs::JoinLemmas::joined))]
 fn push_members(
     alloc: Global,
     text: &mut String,
@@ -96,7 +80,7 @@ fn push_members(
         ≡ string_bytes text.old ++ join_with_byte 44 (map member_text (zip (fields_of fields.now) (row_of columns.now row)))) }
 {
     for k in 0..fields.len() {
-        push_between(text, b',', false, k)?;
+        push_between(text, b',', k)?;
         push_member(alloc, text, &fields[k], &columns[k].view(), row)?;
     }
     Ok(())
@@ -135,40 +119,22 @@ fn push_item(
         ViewType::Int(_) => push_number_at(text, column.int_at(row)),
         ViewType::Bool => push_truth_at(text, column.bool_at(row)),
         ViewType::Text(_) | ViewType::Dict => push_string_at(alloc, text, column.text_at(row)),
-        ViewType::List(_, _) => push_list_at(alloc, text, column, row),
-    }
-}
-
-/// Adds a list of a column as an array, or null.
-#[cycle(items)]
-fn push_list_at(
-    alloc: Global,
-    text: &mut String,
-    column: &View<'_>,
-    row: usize,
-) -> Result<(), NoMemory>
-    requires list { is_list column.now.kind ≡ true }
-    requires within { row < length column.now.items }
-    ensures { OnOk result (string_bytes text.new
-        ≡ string_bytes text.old ++ cell (slice_index_or column.now.items row null)) }
-{
-    match column.list_at(row) {
-        Some(list) => push_list(alloc, text, &list),
-        None => {
-            push_null(text)?;
-            Ok(())
-        }
+        ViewType::List(_, _) => match column.list_at(row) {
+            Some(list) => push_list(alloc, text, &list),
+            None => Ok(push_null(text)?),
+        },
     }
 }
 
 /// Adds all items of a column as an array.
 #[cycle(items)]
+#[tactic(auto, using(crate::proofs::JoinLemmas::joined))]
 fn push_list(alloc: Global, text: &mut String, column: &View<'_>) -> Result<(), NoMemory>
-    ensures { OnOk result (string_bytes text.new ≡ string_bytes text.old ++ array_text (map cell column.now.items)) }
+    ensures { OnOk result (string_bytes text.new ≡ string_bytes text.old ++ cell (list (list_of column.now.items))) }
 {
     push_byte(text, b'[')?;
     for i in 0..column.len() {
-        push_between(text, b',', false, i)?;
+        push_between(text, b',', i)?;
         push_item(alloc, text, column, i)?;
     }
     push_byte(text, b']')?;

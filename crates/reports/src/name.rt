@@ -6,6 +6,7 @@ ghost use Rattle.reports.specs.Lines.{escaped_char, escaped_name};
 use std::alloc::AllocError;
 
 /// Adds a name.
+#[tactic(auto, using(std::proofs::lemmas::List::flat_map_more))]
 pub(crate) fn push_name(text: &mut String, name: &str) -> Result<(), AllocError>
     ensures { OnOk result (string_bytes text.new ≡ string_bytes text.old ++ escaped_name name.now) }
 {

@@ -1,6 +1,6 @@
 //! Refusals as they are reported.
 ghost use Rattle.std.specs.Prelude.{◌≡◌, IfOk, string_bytes};
-ghost use Rattle.reports.specs.RefusalText.{refusal_text};
+ghost use Rattle.reports.specs.Lines.{refusal_text};
 
 use arrays::NoMemory;
 use std::alloc::Global;

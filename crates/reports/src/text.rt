@@ -1,13 +1,13 @@
 //! The lines of `stats` and of `schema`, as text.
 ghost use Rattle.std.specs.Prelude.{◌≡◌, ◌++◌, OnOk, IfOk, option_map, string_bytes};
 ghost use Rattle.arrays.specs.Item as item;
-ghost use Rattle.arrays.specs.Prelude.{kind_of};
+ghost use Rattle.arrays.specs.Prelude.{field_of, is_nullable, kind_of, kind_of_field, name_of};
 ghost use Rattle.table.specs.Prelude.{scalar_item};
 ghost use Rattle.json.specs.Print.{quoted};
 ghost use Rattle.reports.specs.Fields.{schema_line};
 ghost use Rattle.reports.specs.Shown.{cell, column_line, shown_kind, rows_line, sum_text, truth_text, shown_int, value_text, worker_line};
 
-use arrays::{DataType, IntType, NoMemory, Width};
+use arrays::{DataType, Field, IntType, NoMemory, Width};
 use serde_json::Value;
 use std::alloc::{AllocError, Global};
 use table::{ColumnStats, Scalar};
@@ -42,19 +42,19 @@ pub(crate) fn push_worker_line(
     Ok(())
 }
 
-/// The line of a column of a type with these statistics.
+/// The line of a column of a field with these statistics.
+#[tactic(auto, using(crate::proofs::ReportLemmas::field_parts))]
 pub(crate) fn column_line(
     alloc: Global,
-    name: &str,
-    ty: &DataType,
+    field: &Field,
     stats: &ColumnStats,
 ) -> Result<String, NoMemory>
-    ensures { IfOk result (λ text. string_bytes text ≡ column_line name.now (kind_of ty.now) stats.now.rows stats.now.nulls
-        stats.now.sum (option_map scalar_item stats.now.least) (option_map scalar_item stats.now.greatest)) }
+    ensures { IfOk result (λ text. string_bytes text ≡ column_line (name_of (field_of field.now)) (kind_of_field (field_of field.now))
+        stats.now.rows stats.now.nulls stats.now.sum (option_map scalar_item stats.now.least) (option_map scalar_item stats.now.greatest)) }
 {
-    let mut text = quoted(alloc, name)?;
+    let mut text = quoted(alloc, &field.name)?;
     text.push_str(" ")?;
-    push_type(&mut text, ty)?;
+    push_type(&mut text, &field.ty)?;
     text.push_str(" rows=")?;
     write!(text, "{}", stats.rows)?;
     text.push_str(" nulls=")?;
@@ -69,20 +69,17 @@ pub(crate) fn column_line(
     Ok(text)
 }
 
-/// The line of a field of a type.
-pub(crate) fn schema_line(
-    alloc: Global,
-    name: &str,
-    ty: &DataType,
-    nullable: bool,
-) -> Result<String, NoMemory>
-    ensures { IfOk result (λ text. string_bytes text ≡ schema_line name.now (kind_of ty.now) nullable) }
+/// The line of a field.
+#[tactic(auto, using(crate::proofs::ReportLemmas::field_parts))]
+pub(crate) fn schema_line(alloc: Global, field: &Field) -> Result<String, NoMemory>
+    ensures { IfOk result (λ text. string_bytes text
+        ≡ schema_line (name_of (field_of field.now)) (kind_of_field (field_of field.now)) (is_nullable (field_of field.now))) }
 {
-    let mut text = quoted(alloc, name)?;
+    let mut text = quoted(alloc, &field.name)?;
     text.push_str(" ")?;
-    push_type(&mut text, ty)?;
+    push_type(&mut text, &field.ty)?;
     text.push_str(" nullable=")?;
-    text.push_str(truth_text(nullable))?;
+    text.push_str(truth_text(field.nullable))?;
     text.push_str("\n")?;
     Ok(text)
 }

@@ -1,8 +1,13 @@
-use Rattle.std.proofs.Common.{◌≡◌, ◌++◌, map, string_bytes, take}
-use Rattle.table.specs.Prelude.{item_of_scalar}
-use Rattle.reports.specs.GroupLines.{joined_behind, spell}
+use Rattle.std.proofs.Common.{◌≡◌, ◌++◌, drop, map, string_bytes}
+use Rattle.std.specs.Prelude.{nat_lt}
+use Rattle.std.specs.List.{join_with_byte}
+use Rattle.table.specs.Prelude.{group_shape}
+use Rattle.reports.specs.GroupLines.{group_items, spell}
+use Rattle.reports.proofs.JoinLemmas.{joined_behind}
 use Rattle.reports.proofs.forms.push_cells.Given as goal
 
--- The cells so far.
+-- The cells that are left.
 abbrev pub invariant-loop-i : goal.invariant-loop-i
-invariant-loop-i l = string_bytes l.text ≡ string_bytes l.fn.text ++ joined_behind l.separator l.behind (map (λ x. spell l.spelling (item_of_scalar x)) (take l.i l.cells))
+invariant-loop-i l =
+    let cells = group_items (group_shape l.group) in
+    string_bytes l.text ++ joined_behind l.separator (nat_lt 0 l.i) (map (spell l.form) (drop l.i cells)) ≡ string_bytes l.fn.text ++ join_with_byte l.separator (map (spell l.form) cells)
