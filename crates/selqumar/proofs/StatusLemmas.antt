@@ -1,21 +1,17 @@
 -- What a call leaves in its caller's buffer of an answer, by what is known of the answer.
-use Rattle.std.proofs.Common.{◌≡◌, ◌⊎◌, inl, inr, ℕ, List, Result, Err, Ok, IfErr, IfOk, string_bytes, subst, sym}
+use Rattle.std.proofs.Common.{◌≡◌, ◌⊎◌, inl, inr, ℕ, List, Result, Err, IfErr, IfOk, string_bytes, subst, sym}
 use Rattle.std.proofs.Math.Logic.{⊎_map}
 use Rattle.std.specs.declared.alloc.Global.{Global}
 use Rattle.std.specs.declared.string.String.{String}
 use Rattle.embed.specs.Prelude.{Contents, HoldsFiles, IsAnswered, NoMemory, PrintsAnswer, RunFault, StopsAnswer, StopsQuery}
 use Rattle.selqumar.specs.Status.{IsLine, IsTextOf, Leaves}
 
-other_side : (A B : Type 0) → (A → ⊥) → A ⊎ B → B
-other_side A B none (inl a) = absurd (none a)
-other_side A B none (inr b) = b
-
 module _ (answered : Result (String Global) RunFault) (gives : List ℕ → Type 0) (stands : RunFault → Type 0) (ok : IfOk answered (λ t. gives (string_bytes t))) (err : IfErr answered (λ e. (e ≡ NoMemory) ⊎ stands e)) where
   given : (text : List ℕ) → IsTextOf answered text → gives text
   given text is = subst gives (sym is.2) (subst (λ r. IfOk r (λ t. gives (string_bytes t))) is.1 ok)
 
   line : (text : List ℕ) → IsLine (λ e. answered ≡ Err e) text → IsLine stands text
-  line text is = (is.0, is.1, other_side (is.0 ≡ NoMemory) (stands is.0) is.1 (subst (λ r. IfErr r (λ e. (e ≡ NoMemory) ⊎ stands e)) is.2 err), is.3)
+  line text is = (is.0, is.1, elim (subst (λ r. IfErr r (λ e. (e ≡ NoMemory) ⊎ stands e)) is.2 err) as (λ _. stands is.0) [ inl wants ↦ absurd (is.1 wants) | inr why ↦ why ], is.3)
 
   pub leaves-answer : (status : ℕ) (old new : List ℕ) (needed_old needed_new : ℕ) → Leaves (IsTextOf answered) (IsLine (λ e. answered ≡ Err e)) status old new needed_old needed_new
       → Leaves gives (IsLine stands) status old new needed_old needed_new

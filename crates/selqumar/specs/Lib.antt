@@ -1,5 +1,4 @@
 -- The words of this crate's contracts.
-pub mod Boxed
 pub mod FaultLine
 pub mod Follows
 pub mod Handle

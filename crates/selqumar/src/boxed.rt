@@ -1,6 +1,6 @@
 //! A box as its pointer.
 ghost use Rattle.std.specs.Prelude.{◌≡◌};
-ghost use Rattle.selqumar.specs.Boxed.{is_boxed};
+ghost use Rattle.selqumar.specs.Slot.{is_boxed};
 
 use std::alloc::Global;
 use std::marker::Model;

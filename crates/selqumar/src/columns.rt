@@ -1,5 +1,5 @@
 //! The columns of a snapshot, lent.
-ghost use Rattle.std.specs.Prelude.{◌≡◌, ◌≢◌, ◌≤◌, [], length};
+ghost use Rattle.std.specs.Prelude.{◌≡◌, ◌≢◌, ◌≤◌, ◌⊎◌, [], IfErr, IfOk, length};
 ghost use Rattle.intake.specs.Prelude.{Names};
 ghost use Rattle.selqumar.specs.Handle.{Asks, OfOpen, snapshot_in};
 ghost use Rattle.selqumar.specs.Lent.{IsLent, IsLentOf};
@@ -51,18 +51,33 @@ fn lend<'a>(
     ensures past { result ≡ 5 → (length snapshot.now.version.batches ≤ batch) × IsKept nodes.old nodes.new needed.old needed.new }
     ensures rows { result ≢ 0 → rows.new ≡ rows.old }
 {
+    match lent_at(alloc, snapshot, batch) {
+        Ok((count, lent)) => {
+            let status = put_items(&lent, GIVEN, nodes, needed);
+            if status == GIVEN {
+                *rows = count;
+            }
+            status
+        }
+        Err(status) => status,
+    }
+}
+
+/// How many rows a batch of a snapshot has, and its columns as nodes, or the status where there are none.
+fn lent_at<'a>(
+    alloc: Global,
+    snapshot: &'a Snapshot,
+    batch: usize,
+) -> Result<(u32, Vec<Node<'a>>), u32>
+    ensures lent { IfOk result (λ lent. IsLent batch lent.0 lent.1.items snapshot.now.version) }
+    ensures none { IfErr result (λ status. (status ≡ 3) ⊎ ((status ≡ 5) × (length snapshot.now.version.batches ≤ batch))) }
+{
     match snapshot.version.batches().get(batch) {
         Some(batch) => match nodes_of(alloc, batch) {
-            Ok(lent) => {
-                let status = put_items(&lent, GIVEN, nodes, needed);
-                if status == GIVEN {
-                    *rows = batch.rows();
-                }
-                status
-            }
-            Err(NoMemory) => NO_MEMORY,
+            Ok(lent) => Ok((batch.rows(), lent)),
+            Err(NoMemory) => Err(NO_MEMORY),
         },
-        None => NO_BATCH,
+        None => Err(NO_BATCH),
     }
 }
 

@@ -1,50 +1,16 @@
 -- `into_box` hands the pointer to `from_raw`.
-use Rattle.std.proofs.Common.{◌≡◌, List, [], ◌∷◌, ◌++◌, refl, sym, ap, subst}
-use mir.Syntax.{a_type, dcons, dnil}
-use mir.MapTy.{inst_fn}
-use mir.Val.{Val}
 use base.Share
-use base.Logic.{SProp, ent, emp, id⊢}
-use base.Fml.{ftrue, flft}
-use prog.Wp.{WpFn}
-use types.Kit.{‵, raw, ◌⊛◌, some, later, at_ret, ◌$◌, ◌∵◌, !, qed, by, move, keep, drop, split, split3, join, fsplit, fjoin, pick, suffices, use0, use1, use2, await, rewrite, feq_i}
-use types.Run.{stop, fld, of_opd, no_more, and_then, first, blocks, exec, returns, enter}
-use types.ByLocal.{alloc_all, pass_all, free_all, look_at, get, get_in, sets, lands_last, env}
-use types.Part.{sub, whole}
-use contract.BorrowLft.{◌⊑◌, ⊑_static}
-use contract.Monad.{fact, fact_i}
-use contract.Running.{tables}
-use denote.Exit.{yes, no}
-use denote.RattleType.{RattleType, owns}
-use denote.Signature.{types_at, plain}
-use denote.RawPtr.{ptr_val}
-use denote.Steps.{nothing, only, heard}
-use denote.Param.{layout, param, bounded}
-use denote.Param.NoDrop.{glues}
 use denote.Triple.Clauses.{Lasts, lasts}
-use denote.Triple.Spec.{triple_of}
-use denote.Triple.Call.{calls_at_last}
-use denote.Triple.Table.{framed}
-use denote.Triple.Walked.{Stays, stay_dropped, walk_of, Goes-dropped}
-use Rattle.std.proofs.alloc.Calls.{Goes-blank, handle_tells}
-use Rattle.std.proofs.alloc.Shapes.{after}
-use Rattle.std.proofs.cell.Inside.{Good}
-use Rattle.std.specs.Box.Ownership.{box_owns}
 use Rattle.std.specs.contracts.alloc.Global as heap
-use Rattle.std.specs.contracts.impls.GlobalAllocator.TheImpl.{ghosts, dict}
-use Rattle.std.proofs.impls.GlobalAllocator.TheImpl.Met.{passed}
 use Rattle.std.proofs.BoxSteps.Form as box
-use Rattle.std.proofs.BoxSteps.Steps.{box_out, box_in}
-use Rattle.std.proofs.raw_atomic.Walks.{proved_at, leaves}
 use Rattle.std.specs.contracts.boxed.Box.from_raw as callee
 use Rattle.std.proofs.boxed.Box.from_raw.Met.{met}
 use Rattle.selqumar.specs.contracts.boxed.BoxPointer as pointer
-use Rattle.selqumar.proofs.Heap.{allocator, no_drop, box_of}
-use Rattle.selqumar.proofs.Pointers.{one, one_good, pointer_good, one_out}
 use Rattle.selqumar.specs.contracts.boxed.BoxPointer.into_box as f
 use Rattle.selqumar.proofs.boxed.BoxPointer.into_box.Statement.{statement}
 use Rattle.selqumar.proofs.boxed.BoxPointer.into_box.Code as code
 use Rattle.selqumar.proofs.Destruct++none.drop.Code as nothing_to_drop
+use Rattle.selqumar.proofs.Walks.{◌≡◌, List, [], ◌∷◌, ◌++◌, refl, sym, ap, subst, a_type, dcons, dnil, inst_fn, Val, SProp, ent, emp, id⊢, ftrue, flft, WpFn, ‵, raw, ◌⊛◌, some, later, at_ret, ◌$◌, ◌∵◌, !, qed, by, move, keep, drop, split, split3, join, fsplit, fjoin, pick, suffices, use0, use1, use2, await, rewrite, feq_i, stop, fld, of_opd, no_more, and_then, first, blocks, exec, returns, enter, alloc_all, pass_all, free_all, look_at, get, get_in, sets, lands_last, env, sub, whole, ◌⊑◌, ⊑_static, fact, fact_i, tables, yes, no, RattleType, owns, types_at, plain, ptr_val, nothing, only, heard, layout, param, bounded, glues, triple_of, calls_at_last, framed, Stays, stay_dropped, walk_of, Goes-dropped, Goes-blank, handle_tells, after, Good, box_owns, ghosts, dict, passed, box_out, box_in, proved_at, leaves, allocator, no_drop, box_of, one, one_good, pointer_good, one_out}
 
 pub into_box_spec : {M : Type 1} → statement M
 unfolding nothing_to_drop.code

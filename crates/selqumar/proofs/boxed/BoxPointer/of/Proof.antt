@@ -1,49 +1,15 @@
 -- `of` keeps what `into_raw` gives.
-use Rattle.std.proofs.Common.{◌≡◌, List, [], ◌∷◌, ◌++◌, refl, sym, ap, subst}
-use mir.Syntax.{a_type, dcons, dnil}
-use mir.MapTy.{inst_fn}
-use mir.Val.{Val}
 use base.Share
-use base.Logic.{SProp, ent, emp, id⊢}
-use base.Fml.{ftrue, fsep, flft}
-use prog.Wp.{WpFn}
-use types.Kit.{‵, raw, ◌⊛◌, some, later, ◌$◌, ◌∵◌, !, qed, by, move, keep, drop, split, split3, join, fsplit, fjoin, pick, suffices, use0, use1, use2, await, feq_l}
-use types.Run.{of_opd, no_more, and_then, returns, enter}
-use types.ByLocal.{alloc_all, pass_all, free_all, look_at, get, sets, lands_as}
-use types.Part.{agg}
-use contract.BorrowLft.{◌⊑◌, ⊑_static}
-use contract.Monad.{fact, fact_i}
-use contract.Running.{tables}
-use denote.Exit.{no}
-use denote.RattleType.{RattleType, owns}
-use denote.Signature.{types_at, plain}
-use denote.Builtin.{RawPtr}
-use denote.RawPtr.{Ptr}
-use denote.Steps.{nothing, only, heard}
-use denote.Param.{param, bounded}
-use denote.Triple.Spec.{triple_of}
-use denote.Triple.Call.{calls_at}
-use denote.Triple.Table.{framed}
-use denote.Triple.Walked.{Stays, stay_dropped, walk_of}
-use Rattle.std.proofs.alloc.Calls.{Goes-blank}
-use Rattle.std.specs.Box.Ownership.{box_owns}
 use Rattle.std.specs.contracts.alloc.Global as heap
-use Rattle.std.specs.contracts.impls.GlobalAllocator.TheImpl.{ghosts, dict}
 use Rattle.std.proofs.BoxSteps.Form as box
-use Rattle.std.proofs.BoxSteps.Steps.{box_out, box_in}
-use Rattle.std.proofs.raw_atomic.Walks.{proved_at, leaves}
 use Rattle.std.specs.contracts.boxed.Box as boxed
 use Rattle.std.specs.contracts.boxed.Box.into_raw as callee
 use Rattle.std.proofs.boxed.Box.into_raw.Met.{met}
-use Rattle.selqumar.specs.Boxed.{is_boxed}
-use Rattle.selqumar.proofs.Heap.{allocator, no_drop, box_of}
-use denote.Param.NoDrop.{glues}
-use Rattle.std.proofs.impls.GlobalAllocator.TheImpl.Met.{passed}
-use Rattle.selqumar.proofs.Pointers.{one, one_good, pointer_good, one_in}
 use Rattle.selqumar.specs.contracts.boxed.BoxPointer.of as f
 use Rattle.selqumar.proofs.boxed.BoxPointer.of.Statement.{statement}
 use Rattle.selqumar.proofs.boxed.BoxPointer.of.Code as code
 use Rattle.selqumar.proofs.Destruct++none.drop.Code as nothing_to_drop
+use Rattle.selqumar.proofs.Walks.{◌≡◌, List, [], ◌∷◌, ◌++◌, refl, sym, ap, subst, a_type, dcons, dnil, inst_fn, Val, SProp, ent, emp, id⊢, ftrue, fsep, flft, WpFn, ‵, raw, ◌⊛◌, some, later, ◌$◌, ◌∵◌, !, qed, by, move, keep, drop, split, split3, join, fsplit, fjoin, pick, suffices, use0, use1, use2, await, feq_l, of_opd, no_more, and_then, returns, enter, alloc_all, pass_all, free_all, look_at, get, sets, lands_as, agg, ◌⊑◌, ⊑_static, fact, fact_i, tables, no, RattleType, owns, types_at, plain, RawPtr, Ptr, nothing, only, heard, param, bounded, triple_of, calls_at, framed, Stays, stay_dropped, walk_of, Goes-blank, box_owns, ghosts, dict, box_out, box_in, proved_at, leaves, is_boxed, allocator, no_drop, box_of, glues, passed, one, one_good, pointer_good, one_in}
 
 pub of_spec : {M : Type 1} → statement M
 unfolding nothing_to_drop.code

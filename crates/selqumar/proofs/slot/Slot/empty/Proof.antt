@@ -1,26 +1,8 @@
 -- `empty` makes a slot of nothing.
-use Rattle.std.proofs.Common.{◌≡◌, [], ◌∷◌, refl}
-use mir.Val.{Val}
-use base.Logic.{SProp, emp}
-use contract.Monad.{fact, fact_i}
-use contract.Running.{tables}
-use types.Kit.{‵, raw, ◌⊛◌, ◌$◌, ◌∵◌, !, qed, by, keep, split, fjoin, use0}
-use types.Run.{lit, no_more, and_then, returns, enter}
-use types.ByLocal.{alloc_all, pass_all, free_all, look_at, sets}
-use types.Part.{agg}
-use denote.RattleType.{owns}
-use denote.RawPtr.{null_ptr}
-use denote.Signature.{types_at}
-use denote.Steps.{nothing}
-use denote.Triple.Entry.{alive}
-use denote.Triple.Walked.{walk_of}
-use Rattle.std.specs.Prelude.{Option, None}
-use Rattle.std.proofs.raw_atomic.Walks.{proved_at, leaves}
-use Rattle.selqumar.specs.declared.pointee.Pointee.{Pointee}
-use Rattle.selqumar.proofs.Pointers.{one, one_good, one_in}
 use Rattle.selqumar.specs.contracts.slot.Slot.empty as f
 use Rattle.selqumar.proofs.slot.Slot.empty.Statement.{statement}
 use Rattle.selqumar.proofs.slot.Slot.empty.Code as code
+use Rattle.selqumar.proofs.Walks.{◌≡◌, [], ◌∷◌, refl, Val, SProp, emp, fact, fact_i, tables, ‵, raw, ◌⊛◌, ◌$◌, ◌∵◌, !, qed, by, keep, split, fjoin, use0, lit, no_more, and_then, returns, enter, alloc_all, pass_all, free_all, look_at, sets, agg, owns, null_ptr, types_at, nothing, alive, walk_of, Option, None, proved_at, leaves, Pointee, one, one_good, one_in}
 
 pub empty_spec : {M : Type 1} → statement M
 empty_spec 𝓤 𝓛 𝓜 𝓡 wired =

@@ -1,56 +1,18 @@
 -- `get_mut` lends what is there; once the borrow ends, the slot holds it as it was left.
-use Rattle.std.proofs.Common.{◌≡◌, ◌≢◌, List, [], ◌∷◌, refl, sym}
 use Prim.Native.Nat.{ℕ}
-use seplogic.Ra.Ura.{Ura}
 use base.Fraction.{full_share}
-use base.Fml.{Fml, GName, ftrue, fsep, flft}
-use mir.Syntax.{named}
-use mir.Raw.{raw as bare}
-use mir.Val.{Val, vptr}
-use base.Logic.{SProp, ent, sep, id⊢, never, fst∗}
-use prog.Wp.{Env}
-use contract.Monad.{fact}
-use contract.Running.{tables}
-use types.Logic.{Logic, sem}
-use types.Kit.{‵, raw, ◌⊛◌, some, later, at_ret, ◌$◌, ◌∵◌, !, qed, move, keep, drop, use1, split, join, pick, await, group, fsplit, fsplit3, fjoin, fpack, rewrite, suffices, frame, done}
-use types.Part.{look_in, sub, whole}
-use types.Run.{stop, fld, load, of_opd, addr, first, blocks, exec, returns, enter}
-use types.ByLocal.{alloc_all, pass_all, free_all, look_at, get, through, sets, sets_last, env}
-use denote.Exit.{no}
 use denote.Follow.{follows, Part, lends_Part}
 use denote.Memory.{part_at, part_of, cell_at, mem, lone}
-use denote.RattleType.{RattleType, owns}
-use denote.RawPtr.{Ptr, block_ptr, null_ptr, in_a_block}
 use denote.Ref.{MutRef, mut_vals, mut_Tells}
-use denote.Signature.{plain, mut_ref_to}
-use denote.Steps.{opens, nothing, heard}
-use denote.Triple.Walked.{Stays, stay_dropped, walk_of, Goes-spent_ref, says, ends_at}
-use Rattle.std.specs.Prelude.{Option, None, Some}
-use Rattle.std.specs.contracts.impls.GlobalAllocator.TheImpl.{ghosts}
-use Rattle.std.proofs.alloc.Shapes.{after}
-use Rattle.std.proofs.raw_atomic.Walks.{proved}
-use Rattle.selqumar.specs.Prelude.{is_boxed, owned_at, with_pointee}
-use Rattle.selqumar.specs.declared.pointee.Pointee.{Pointee}
 use Rattle.selqumar.specs.declared.slot.Slot.{Slot}
-use Rattle.selqumar.specs.contracts.pointee.Pointee as pointee
-use Rattle.selqumar.specs.contracts.slot.Slot as slot
-use Rattle.selqumar.proofs.Pointers.{one, one_out, one_in}
+use Rattle.selqumar.specs.contracts.slot.Slot.{the_row as S}
 use Rattle.selqumar.specs.contracts.slot.Slot.get_mut as f
 use Rattle.selqumar.proofs.slot.Slot.get_mut.Statement.{statement}
 use Rattle.selqumar.proofs.slot.Slot.get_mut.Code as code
-
-abbrev S : RattleType
-S = slot.the_row
-
-abbrev T : RattleType
-T = pointee.the_row
+use Rattle.selqumar.proofs.Walks.{◌≡◌, ◌≢◌, List, [], ◌∷◌, refl, sym, Ura, Fml, GName, ftrue, fsep, flft, named, bare, Val, vptr, SProp, ent, sep, id⊢, never, fst∗, Env, fact, tables, Logic, sem, ‵, raw, ◌⊛◌, some, later, at_ret, ◌$◌, ◌∵◌, !, qed, move, keep, drop, use1, split, join, pick, await, group, fsplit, fsplit3, fjoin, fpack, rewrite, suffices, frame, done, look_in, sub, whole, stop, fld, load, of_opd, addr, first, blocks, exec, returns, enter, alloc_all, pass_all, free_all, look_at, get, through, sets, sets_last, env, no, owns, Ptr, block_ptr, null_ptr, in_a_block, plain, mut_ref_to, opens, nothing, heard, Stays, stay_dropped, walk_of, Goes-spent_ref, says, ends_at, Option, None, ghosts, after, proved, is_boxed, owned_at, with_pointee, Pointee, pointee_row as T, one, some_of, one_out, one_in}
 
 abbrev token : Ptr → Fml
 token p = ghosts.dealloc_token (record { memory = record { seal = tt } }) (bare (lone T.mir)) p
-
-some_of : (t : Option Pointee) → t ≢ None → (x : Pointee) × (t ≡ Some x)
-some_of None there = absurd (there refl)
-some_of (Some x) there = (x, refl)
 
 module _ {M : Type 1} {𝓤 : Ura M} (𝓛 : Logic 𝓤) (d : Slot) (rb ro b o : ℕ) (at : d.pointer ≡ block_ptr b o) where
   -- all of the slot but what its pointer points to

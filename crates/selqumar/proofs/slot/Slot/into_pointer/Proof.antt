@@ -1,35 +1,9 @@
 -- `into_pointer` gives the pointer its type again.
-use Rattle.std.proofs.Common.{◌≡◌, ◌≢◌, List, [], ◌∷◌, ◌++◌, refl, sym, subst}
-use mir.Val.{Val}
-use base.Logic.{SProp, ent, emp, id⊢}
-use prog.Wp.{WpFn}
-use contract.Monad.{fact, fact_i}
-use contract.Running.{tables}
-use types.Kit.{‵, raw, ◌⊛◌, ◌$◌, ◌∵◌, !, qed, by, move, keep, split, fsplit, fjoin, suffices, use0, use1, rewrite}
-use types.Run.{stop, fld, of_opd, no_more, and_then, returns, enter}
-use types.ByLocal.{alloc_all, pass_all, free_all, look_at, get, get_in, sets}
-use types.Part.{agg, sub, whole}
-use denote.Exit.{yes}
-use denote.RattleType.{RattleType, owns}
-use denote.Signature.{types_at, plain}
-use denote.Steps.{nothing, heard}
-use denote.Triple.Entry.{alive}
-use denote.Triple.Walked.{Stays, stay_dropped, walk_of, Goes-dropped}
-use Rattle.std.specs.Prelude.{Option, None, Some}
-use Rattle.std.proofs.raw_atomic.Walks.{proved_at, leaves}
-use Rattle.selqumar.specs.Prelude.{is_boxed, owned_at}
-use Rattle.selqumar.specs.declared.pointee.Pointee.{Pointee}
-use Rattle.selqumar.specs.contracts.pointee.Pointee as pointee
 use Rattle.selqumar.specs.contracts.slot.Slot as slot
-use Rattle.selqumar.proofs.Pointers.{one, one_good, pointer_good, one_out, one_in}
 use Rattle.selqumar.specs.contracts.slot.Slot.into_pointer as f
 use Rattle.selqumar.proofs.slot.Slot.into_pointer.Statement.{statement}
 use Rattle.selqumar.proofs.slot.Slot.into_pointer.Code as code
-
--- what is there, where something is
-some_of : (t : Option Pointee) → t ≢ None → (x : Pointee) × (t ≡ Some x)
-some_of None there = absurd (there refl)
-some_of (Some x) there = (x, refl)
+use Rattle.selqumar.proofs.Walks.{◌≡◌, ◌≢◌, List, [], ◌∷◌, ◌++◌, refl, sym, subst, Val, SProp, ent, emp, id⊢, WpFn, fact, fact_i, tables, ‵, raw, ◌⊛◌, ◌$◌, ◌∵◌, !, qed, by, move, keep, split, fsplit, fjoin, suffices, use0, use1, rewrite, stop, fld, of_opd, no_more, and_then, returns, enter, alloc_all, pass_all, free_all, look_at, get, get_in, sets, agg, sub, whole, yes, RattleType, owns, types_at, plain, nothing, heard, alive, Stays, stay_dropped, walk_of, Goes-dropped, Option, None, Some, proved_at, leaves, is_boxed, owned_at, Pointee, pointee_row, one, one_good, pointer_good, one_out, one_in, some_of}
 
 pub into_pointer_spec : {M : Type 1} → statement M
 into_pointer_spec 𝓤 𝓛 𝓜 𝓡 wired =
@@ -44,7 +18,7 @@ into_pointer_spec 𝓤 𝓛 𝓜 𝓡 wired =
     suffices ! (Run (one p ∷ [])) (subst (λ (us : List Val). ent 𝓤 (Run (one p ∷ [])) (Run us)) (sym (λ i. is i ++ [])) (id⊢ 𝓤 (Run (one p ∷ [])))) $
     enter ! 𝓣.C 𝓣.Λ fn (one p ∷ []) Post $ alloc_all ! (λ l. pass_all ! refl (one_good p, tt) $
     sets ! (of_opd ! (get_in ! (fld ! refl (stop !)) (sub ! 0 refl (whole !)))) refl (pointer_good p) $ sets ! (of_opd ! (get ! refl)) refl (pointer_good p) $
-    sets ! (agg ! (and_then ! (get ! refl) (no_more !))) refl (one_good p) $ use1 𝓛 (‵ (is_boxed pointee.the_row p x.0)) (id⊢ 𝓤 _) $ one_in ! p $ fjoin ! $
+    sets ! (agg ! (and_then ! (get ! refl) (no_more !))) refl (one_good p) $ use1 𝓛 (‵ (is_boxed pointee_row p x.0)) (id⊢ 𝓤 _) $ one_in ! p $ fjoin ! $
     use0 𝓛 (raw (fact 𝓤 (s.pointee ≡ Some x.0))) (fact_i 𝓤 (s.pointee ≡ Some x.0) (emp 𝓤) x.1) $ nothing ! $ nothing ! $ fjoin ! $
     -- [what is left of the parameter; the fact; the pointer's owner; nothing; the tokens]
     returns ! (look_at ! 0 refl) $ free_all ! refl $ keep ! (4 ∷ 0 ∷ 2 ∷ 1 ∷ []) $ by ! (leaves 𝓛 En hs c z (one p) (record { pointer = p; value = x.0 }) (_, tt) (tt, tt))))))
