@@ -15,7 +15,7 @@ import sys
 
 TOP = os.path.dirname(os.path.dirname(os.path.abspath(__file__)))
 # So many were left when this was last lowered.
-LEFT = 614
+LEFT = 574
 
 USE = re.compile(r"^(?:unfoldable )?(pub )?use ([^\s{]+)\.\{([^}]*)\}", re.M)
 PASSED = re.compile(r"^pub use (\S+)$", re.M)
