@@ -5,18 +5,15 @@
      build/embed '{"by":["city"],"aggs":[{"agg":"rows"}]}' examples/mixed.json */
 #include "selqumar.h"
 #include <stdio.h>
+#include <stdlib.h>
 #include <string.h>
 
 enum { ROOM = 4096, UNREAD = 2 };
-
-/* What is asked: each call is made again where its buffer was too short. */
-enum call { OPEN, STATS, QUERY };
 
 struct session {
   struct selqumar_handle table;
   struct selqumar_bytes *files;
   size_t count;
-  const char *query;
 };
 
 /* Reads a whole file. Whether it could. */
@@ -41,30 +38,33 @@ static int read_file(const char *name, struct selqumar_bytes *bytes) {
   return is_read;
 }
 
-static uint32_t ask(enum call call, struct session *asked, uint8_t *out, size_t room, size_t *needed) {
-  switch (call) {
-  case OPEN:
-    return selqumar_open(asked->files, asked->count, &asked->table, out, room, needed);
-  case STATS:
-    return selqumar_open_stats(&asked->table, out, room, needed);
-  default:
-    return selqumar_open_query(&asked->table, (const uint8_t *)asked->query, strlen(asked->query), out, room, needed);
-  }
+/* Prints a text, or the line of a fault. */
+static void print(void *unused, uint32_t status, const uint8_t *text, size_t length) {
+  (void)unused;
+  fwrite(text, 1, length, status == SELQUMAR_GIVEN ? stdout : stderr);
 }
 
-/* Prints the text of a call, or the line of its fault. Whether there was a text. */
-static int print(enum call call, struct session *asked) {
+/* Opens a table of the files, or prints why there is none: the call is made again where its buffer was too short for the line. */
+static uint32_t open_table(struct session *session) {
   uint32_t status = SELQUMAR_SHORT;
   for (size_t room = ROOM, needed = 0; status == SELQUMAR_SHORT; room = needed) {
     /* All of a buffer has to be initialized. */
-    uint8_t *out = calloc(room, 1);
-    status = out ? ask(call, asked, out, room, &needed) : (uint32_t)SELQUMAR_NO_MEMORY;
-    if (status == SELQUMAR_GIVEN)
-      fwrite(out, 1, needed, stdout);
+    uint8_t *line = calloc(room, 1);
+    status = line ? selqumar_open(session->files, session->count, &session->table, line, room, &needed) : (uint32_t)SELQUMAR_NO_MEMORY;
     if (status == SELQUMAR_FAULT)
-      fwrite(out, 1, needed, stderr);
-    free(out);
+      print(NULL, status, line, needed);
+    free(line);
   }
+  return status;
+}
+
+/* Prints the statistics and the groups. Whether there were both. */
+static int ask(struct session *session, const char *query) {
+  uint32_t status = open_table(session);
+  if (status == SELQUMAR_GIVEN)
+    status = selqumar_open_stats_to(&session->table, 1, print, NULL);
+  if (status == SELQUMAR_GIVEN)
+    status = selqumar_open_query_to(&session->table, (const uint8_t *)query, strlen(query), print, NULL);
   if (status == SELQUMAR_NO_MEMORY)
     fputs("embed: no memory\n", stderr);
   return status == SELQUMAR_GIVEN;
@@ -73,7 +73,7 @@ static int print(enum call call, struct session *asked) {
 int main(int count, char **words) {
   if (count < 2)
     return fputs("embed QUERY FILE..\n", stderr), UNREAD;
-  struct session asked = {SELQUMAR_CLOSED, calloc(count, sizeof *asked.files), 0, words[1]};
+  struct session asked = {SELQUMAR_CLOSED, calloc(count, sizeof *asked.files), 0};
   int status = asked.files ? 0 : UNREAD;
   for (int i = 2; i < count && !status; i++)
     if (!read_file(words[i], &asked.files[asked.count++])) {
@@ -81,7 +81,7 @@ int main(int count, char **words) {
       status = UNREAD;
     }
   if (!status)
-    status = !(print(OPEN, &asked) && print(STATS, &asked) && print(QUERY, &asked));
+    status = !ask(&asked, words[1]);
   selqumar_close(&asked.table);
   for (size_t i = 0; i < asked.count; i++)
     free((void *)asked.files[i].data);

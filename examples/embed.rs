@@ -39,7 +39,7 @@ mod sys {
         ) -> u32;
         pub fn selqumar_validate(files: *const Bytes, count: usize, out: *mut u8, room: usize, needed: *mut usize) -> u32;
         pub fn selqumar_open(files: *const Bytes, count: usize, handle: *mut Handle, out: *mut u8, room: usize, needed: *mut usize) -> u32;
-        pub fn selqumar_open_stats(handle: *mut Handle, out: *mut u8, room: usize, needed: *mut usize) -> u32;
+        pub fn selqumar_open_stats(handle: *mut Handle, workers: u32, out: *mut u8, room: usize, needed: *mut usize) -> u32;
         pub fn selqumar_open_export(handle: *mut Handle, out: *mut u8, room: usize, needed: *mut usize) -> u32;
         pub fn selqumar_open_query(
             handle: *mut Handle,
@@ -138,7 +138,7 @@ impl Table {
 
     /// What `arrowtab stats` prints of its files.
     pub fn stats(&mut self) -> Result<String, Fault> {
-        text_of(ROOM, |out, needed| unsafe { sys::selqumar_open_stats(&mut self.handle, out.as_mut_ptr(), out.len(), needed) })
+        text_of(ROOM, |out, needed| unsafe { sys::selqumar_open_stats(&mut self.handle, 1, out.as_mut_ptr(), out.len(), needed) })
     }
 
     /// What `arrowtab export` prints of them.

@@ -46,7 +46,7 @@ int main(void) {
   /* An offset that decreases is told by its place, and leaves the table as it was. */
   offsets[1] = 12;
   all = all && !done(selqumar_append(&table, 0, 3, nodes, 2, out, sizeof out, &needed)) &&
-        done(selqumar_stats_of(&table, 2, out, sizeof out, &needed));
+        done(selqumar_open_stats(&table, 2, out, sizeof out, &needed));
   selqumar_close(&table);
   return !all;
 }

@@ -11,17 +11,16 @@
      SELQUMAR_NOT_OPEN   No table is open in the handle, or no snapshot. `out` and `*needed` stay as they were.
      SELQUMAR_NO_BATCH   The snapshot has no such batch. Nothing is written.
 
-   The text is UTF-8, without a zero behind it. A call that answers SELQUMAR_SHORT has cost as much as another, so begin with a buffer of
-   4096 bytes or of as many as the last call needed, and for an export with one that is as long as all files together.
+   The text is UTF-8, without a zero behind it. A call that answers SELQUMAR_SHORT has cost as much as another: where the length isn't known, a call whose
+   name ends in `_to` gives the text to a writer, and nothing is computed twice.
 
    Nothing stays between calls but what is open in a handle: the table of files that `selqumar_open` read, or one that `selqumar_new` made and
    `selqumar_append` filled. A call that is refused leaves it as it was. Calls may run at once in several threads, each with buffers and handles of its
-   own. Several threads may use one handle, one at a time under a lock. A call needs 128 kB of stack. What the
-   caller owes is checked by nothing:
+   own. Several threads may use one handle, one at a time under a lock. A call needs 128 kB of stack. What the caller owes is checked by nothing:
 
-     - `files` and `nodes` have `count` entries, and each `data` has `length` bytes; a length is below 2^63. Nothing that these bytes say is trusted.
-     - A pointer may be null where there is nothing behind it: a count, a length or `room` of 0. (In other languages it may not: the
-       functions themselves want any other aligned address there. What allows it stands at the end of this file.)
+     - `files` and `nodes` have `count` entries, and each `data` has `length` bytes; a length is below 2^63. Nothing that these bytes say is trusted, but
+       nobody writes to `files`, `nodes`, `query` or what they point to before the call returns.
+     - A pointer may be null where there is nothing behind it: a count, a length or `room` of 0.
      - `out` has `room` bytes, all of them initialized. Neither `out` nor `needed` nor a handle overlaps anything else that is handed in, and
        no other thread writes to any of it before the call returns.
      - A handle begins as all zeros, or with SELQUMAR_CLOSED, and only calls change it. It may be moved, but of two copies only one is used
@@ -34,10 +33,9 @@
 #include <stdbool.h>
 #include <stddef.h>
 #include <stdint.h>
-#include <stdlib.h>
 
-/* Counts the versions of what stands here. The shared library of this one is libselqumar.so.1. */
-#define SELQUMAR_VERSION 1
+/* Counts the versions of what stands here. The shared library of this one is libselqumar.so.2. */
+#define SELQUMAR_VERSION 2
 /* The version of all that came with it. */
 #define SELQUMAR_RELEASE "0.1.0"
 
@@ -46,6 +44,9 @@ extern "C" {
 #endif
 
 enum { SELQUMAR_GIVEN = 0, SELQUMAR_FAULT = 1, SELQUMAR_SHORT = 2, SELQUMAR_NO_MEMORY = 3, SELQUMAR_NOT_OPEN = 4, SELQUMAR_NO_BATCH = 5 };
+
+/* The SELQUMAR_VERSION of the library that is loaded. */
+uint32_t selqumar_version(void);
 
 /* The bytes of a file. */
 struct selqumar_bytes {
@@ -110,11 +111,8 @@ uint32_t selqumar_add_column(struct selqumar_handle *handle, const struct selqum
 /* Joins neighbouring batches into ones of at most so many rows. No answer of a query changes by it. Nothing is printed. */
 uint32_t selqumar_compact(struct selqumar_handle *handle, uint32_t max_rows, uint8_t *out, size_t room, size_t *needed);
 
-/* What `arrowtab stats` prints of the table that is open, with one worker. */
-uint32_t selqumar_open_stats(struct selqumar_handle *handle, uint8_t *out, size_t room, size_t *needed);
-
-/* The same with so many workers. */
-uint32_t selqumar_stats_of(struct selqumar_handle *handle, uint32_t workers, uint8_t *out, size_t room, size_t *needed);
+/* What `arrowtab stats` prints of the table that is open, with so many workers. */
+uint32_t selqumar_open_stats(struct selqumar_handle *handle, uint32_t workers, uint8_t *out, size_t room, size_t *needed);
 
 /* What `arrowtab export` prints of it. */
 uint32_t selqumar_open_export(struct selqumar_handle *handle, uint8_t *out, size_t room, size_t *needed);
@@ -136,9 +134,9 @@ struct selqumar_snapshot {
 
 /* Opens a snapshot of the table that is open in the handle, in place of the one that is held. No row is copied. Where it answers another status than
    SELQUMAR_GIVEN, what was held stays. */
-uint32_t selqumar_snapshot(struct selqumar_handle *handle, struct selqumar_snapshot *snapshot);
+uint32_t selqumar_snapshot_open(struct selqumar_handle *handle, struct selqumar_snapshot *snapshot);
 
-/* The same of the moment of another snapshot, which stays as it is. */
+/* The same of the moment of another snapshot, which stays as it is. It is a use of that one. */
 uint32_t selqumar_snapshot_share(struct selqumar_snapshot *snapshot, struct selqumar_snapshot *copy);
 
 /* What `arrowtab stats` prints of it, with so many workers. */
@@ -150,9 +148,9 @@ uint32_t selqumar_snapshot_export(struct selqumar_snapshot *snapshot, uint8_t *o
 /* What `arrowtab query` prints of it: a line for each group. */
 uint32_t selqumar_snapshot_query(struct selqumar_snapshot *snapshot, const uint8_t *query, size_t query_length, uint8_t *out, size_t room, size_t *needed);
 
-/* Opens a table of what the query answers of it in the handle, in place of the table that is open there: a row for each line that `selqumar_snapshot_query` prints, a column
-   for each item of a key and each aggregate. The snapshot stays as it is. Nothing is printed; where it answers another status than SELQUMAR_GIVEN, what was open in
-   the handle stays open. */
+/* Opens a table of what the query answers of it in the handle, in place of the table that is open there: a row for each line that `selqumar_snapshot_query`
+   prints, a column for each item of a key and each aggregate. The snapshot stays as it is. Nothing is printed; where it answers another status than
+   SELQUMAR_GIVEN, what was open in the handle stays open. */
 uint32_t selqumar_answer(struct selqumar_snapshot *snapshot, const uint8_t *query, size_t query_length, struct selqumar_handle *handle, uint8_t *out, size_t room,
                          size_t *needed);
 
@@ -177,11 +175,27 @@ uint32_t selqumar_lend_fields(struct selqumar_snapshot *snapshot, struct selquma
 /* Closes the snapshot that is open, if one is. What it lent is gone then. The snapshot may be null. */
 void selqumar_snapshot_close(struct selqumar_snapshot *snapshot);
 
-/* ---- What a line says
+/* ---- Texts for a writer */
 
-   The number of a fault, and its place, read from its line. */
+/* Gets the text of a call, with SELQUMAR_GIVEN, or the line of its fault, with SELQUMAR_FAULT: all of it, once. It is gone when the writer returns. `state` is what the
+   caller handed in. A writer may make calls of its own, but none with the handle or the snapshot that is asked. */
+typedef void selqumar_writer(void *state, uint32_t status, const uint8_t *text, size_t length);
 
-/* What isn't told is SELQUMAR_NOWHERE. */
+/* Each is the call without `_to`, but for the writer. None answers SELQUMAR_SHORT; with another status than SELQUMAR_GIVEN and SELQUMAR_FAULT nothing is written.
+   The text is computed once where 4 TiB of addresses may be reserved, and twice at most. */
+uint32_t selqumar_stats_to(const struct selqumar_bytes *files, size_t count, selqumar_writer *writer, void *state);
+uint32_t selqumar_export_to(const struct selqumar_bytes *files, size_t count, selqumar_writer *writer, void *state);
+uint32_t selqumar_query_to(const struct selqumar_bytes *files, size_t count, const uint8_t *query, size_t query_length, selqumar_writer *writer, void *state);
+uint32_t selqumar_open_stats_to(struct selqumar_handle *handle, uint32_t workers, selqumar_writer *writer, void *state);
+uint32_t selqumar_open_export_to(struct selqumar_handle *handle, selqumar_writer *writer, void *state);
+uint32_t selqumar_open_query_to(struct selqumar_handle *handle, const uint8_t *query, size_t query_length, selqumar_writer *writer, void *state);
+uint32_t selqumar_snapshot_stats_to(struct selqumar_snapshot *snapshot, uint32_t workers, selqumar_writer *writer, void *state);
+uint32_t selqumar_snapshot_export_to(struct selqumar_snapshot *snapshot, selqumar_writer *writer, void *state);
+uint32_t selqumar_snapshot_query_to(struct selqumar_snapshot *snapshot, const uint8_t *query, size_t query_length, selqumar_writer *writer, void *state);
+
+/* ---- What a line says */
+
+/* The number of a fault, and its place. What isn't told is SELQUMAR_NOWHERE. */
 struct selqumar_fault {
   /* A letter and a number, as `J` and 3. */
   uint32_t group, number;
@@ -191,280 +205,8 @@ struct selqumar_fault {
 
 #define SELQUMAR_NOWHERE UINT64_MAX
 
-/* Whether a text begins with this. It is moved behind it then. */
-static inline int selqumar_passed(struct selqumar_bytes *text, const char *front) {
-  size_t length = 0;
-  while (front[length]) {
-    if (length == text->length || text->data[length] != (uint8_t)front[length])
-      return 0;
-    length++;
-  }
-  text->data += length;
-  text->length -= length;
-  return 1;
-}
-
-/* Whether a text begins with a number, which is noted. It is moved behind it then. */
-static inline int selqumar_passed_number(struct selqumar_bytes *text, uint64_t *number) {
-  const size_t before = text->length;
-  uint64_t found = 0;
-  while (text->length && *text->data >= '0' && *text->data <= '9') {
-    found = found * 10 + (uint64_t)(*text->data - '0');
-    text->data++;
-    text->length--;
-  }
-  if (text->length < before)
-    *number = found;
-  return text->length < before;
-}
-
 /* Reads the line of a fault. Whether it has a number; what is told without one is of a file at most. */
-static inline int selqumar_fault_of(const uint8_t *line, size_t length, struct selqumar_fault *fault) {
-  struct selqumar_bytes text, front;
-  uint64_t number = 0;
-  text.data = line;
-  text.length = length;
-  fault->group = fault->number = 0;
-  fault->file = fault->batch = fault->column = fault->row = SELQUMAR_NOWHERE;
-  if (!selqumar_passed(&text, "arrowtab: "))
-    return 0;
-  front = text;
-  if (selqumar_passed_number(&front, &number) && selqumar_passed(&front, ": ")) {
-    fault->file = number;
-    text = front;
-  } else if (!selqumar_passed(&text, "query: ")) {
-    selqumar_passed(&text, "column: ");
-  }
-  front = text;
-  if (selqumar_passed(&front, "batch ") && selqumar_passed_number(&front, &number) && selqumar_passed(&front, ": ")) {
-    fault->batch = number;
-    text = front;
-  }
-  if (!text.length || *text.data < 'A' || *text.data > 'Z')
-    return 0;
-  fault->group = *text.data++;
-  text.length--;
-  if (!selqumar_passed_number(&text, &number))
-    return 0;
-  fault->number = (uint32_t)number;
-  /* Behind a path any name may stand. */
-  for (; text.length && !selqumar_passed(&text, " at /"); text.data++, text.length--) {
-    front = text;
-    if (selqumar_passed(&front, " column="))
-      selqumar_passed_number(&front, &fault->column);
-    else if (selqumar_passed(&front, " row="))
-      selqumar_passed_number(&front, &fault->row);
-  }
-  return 1;
-}
-
-/* ---- What allows null
-
-   A call by its name is one of the functions below, which hands on an address in place of null. */
-
-/* An address of nothing, aligned for whatever it stands for. */
-static inline void *selqumar_nothing(void) {
-  static uint64_t nothing[2];
-  return nothing;
-}
-
-static inline const uint8_t *selqumar_some(const uint8_t *bytes) {
-  return bytes ? bytes : (const uint8_t *)selqumar_nothing();
-}
-
-static inline uint8_t *selqumar_some_out(uint8_t *out) {
-  return out ? out : (uint8_t *)selqumar_nothing();
-}
-
-/* The files, each of which has data that isn't null: those that are handed in, or a copy. None where there is no memory for it. */
-static inline const struct selqumar_bytes *selqumar_some_files(const struct selqumar_bytes *files, size_t count) {
-  struct selqumar_bytes *copy;
-  size_t i = 0;
-  while (i < count && files[i].data)
-    i++;
-  if (i == count)
-    return files ? files : (const struct selqumar_bytes *)selqumar_nothing();
-  copy = (struct selqumar_bytes *)malloc(count * sizeof *copy);
-  for (i = 0; copy && i < count; i++) {
-    copy[i].data = selqumar_some(files[i].data);
-    copy[i].length = files[i].length;
-  }
-  return copy;
-}
-
-/* Frees a copy. */
-static inline uint32_t selqumar_freed(const struct selqumar_bytes *copy, const struct selqumar_bytes *files, uint32_t status) {
-  if (files && copy != files)
-    free((void *)copy);
-  return status;
-}
-
-static inline uint32_t selqumar_stats_or_null(const struct selqumar_bytes *files, size_t count, uint8_t *out, size_t room, size_t *needed) {
-  const struct selqumar_bytes *some = selqumar_some_files(files, count);
-  return some ? selqumar_freed(some, files, selqumar_stats(some, count, selqumar_some_out(out), room, needed)) : (uint32_t)SELQUMAR_NO_MEMORY;
-}
-
-static inline uint32_t selqumar_export_or_null(const struct selqumar_bytes *files, size_t count, uint8_t *out, size_t room, size_t *needed) {
-  const struct selqumar_bytes *some = selqumar_some_files(files, count);
-  return some ? selqumar_freed(some, files, selqumar_export(some, count, selqumar_some_out(out), room, needed)) : (uint32_t)SELQUMAR_NO_MEMORY;
-}
-
-static inline uint32_t selqumar_query_or_null(const struct selqumar_bytes *files, size_t count, const uint8_t *query, size_t query_length,
-                                              uint8_t *out, size_t room, size_t *needed) {
-  const struct selqumar_bytes *some = selqumar_some_files(files, count);
-  return some ? selqumar_freed(some, files,
-                               selqumar_query(some, count, selqumar_some(query), query_length, selqumar_some_out(out), room, needed))
-              : (uint32_t)SELQUMAR_NO_MEMORY;
-}
-
-static inline uint32_t selqumar_validate_or_null(const struct selqumar_bytes *files, size_t count, uint8_t *out, size_t room, size_t *needed) {
-  const struct selqumar_bytes *some = selqumar_some_files(files, count);
-  return some ? selqumar_freed(some, files, selqumar_validate(some, count, selqumar_some_out(out), room, needed)) : (uint32_t)SELQUMAR_NO_MEMORY;
-}
-
-static inline uint32_t selqumar_open_or_null(const struct selqumar_bytes *files, size_t count, struct selqumar_handle *handle, uint8_t *out,
-                                             size_t room, size_t *needed) {
-  const struct selqumar_bytes *some = selqumar_some_files(files, count);
-  return some ? selqumar_freed(some, files, selqumar_open(some, count, handle, selqumar_some_out(out), room, needed)) : (uint32_t)SELQUMAR_NO_MEMORY;
-}
-
-static inline struct selqumar_bytes selqumar_some_bytes(struct selqumar_bytes bytes) {
-  bytes.data = selqumar_some(bytes.data);
-  return bytes;
-}
-
-/* A copy of the nodes, none of whose bytes are null. None where there is no memory for it. */
-static inline struct selqumar_node *selqumar_some_nodes(const struct selqumar_node *nodes, size_t count) {
-  struct selqumar_node *copy = (struct selqumar_node *)calloc(count + 1, sizeof *copy);
-  size_t i;
-  for (i = 0; copy && i < count; i++) {
-    copy[i] = nodes[i];
-    copy[i].format = selqumar_some_bytes(nodes[i].format);
-    copy[i].name = selqumar_some_bytes(nodes[i].name);
-    copy[i].validity = selqumar_some_bytes(nodes[i].validity);
-    copy[i].first = selqumar_some_bytes(nodes[i].first);
-    copy[i].second = selqumar_some_bytes(nodes[i].second);
-  }
-  return copy;
-}
-
-static inline uint32_t selqumar_freed_nodes(struct selqumar_node *copy, uint32_t status) {
-  free(copy);
-  return status;
-}
-
-static inline uint32_t selqumar_new_or_null(const struct selqumar_node *nodes, size_t count, struct selqumar_handle *handle, uint8_t *out, size_t room,
-                                            size_t *needed) {
-  struct selqumar_node *some = selqumar_some_nodes(nodes, count);
-  return some ? selqumar_freed_nodes(some, selqumar_new(some, count, handle, selqumar_some_out(out), room, needed)) : (uint32_t)SELQUMAR_NO_MEMORY;
-}
-
-static inline uint32_t selqumar_append_or_null(struct selqumar_handle *handle, uint32_t worker, uint32_t rows, const struct selqumar_node *nodes,
-                                               size_t count, uint8_t *out, size_t room, size_t *needed) {
-  struct selqumar_node *some = selqumar_some_nodes(nodes, count);
-  return some ? selqumar_freed_nodes(some, selqumar_append(handle, worker, rows, some, count, selqumar_some_out(out), room, needed))
-              : (uint32_t)SELQUMAR_NO_MEMORY;
-}
-
-static inline uint32_t selqumar_add_column_or_null(struct selqumar_handle *handle, const struct selqumar_node *nodes, size_t count, uint8_t *out,
-                                                   size_t room, size_t *needed) {
-  struct selqumar_node *some = selqumar_some_nodes(nodes, count);
-  return some ? selqumar_freed_nodes(some, selqumar_add_column(handle, some, count, selqumar_some_out(out), room, needed)) : (uint32_t)SELQUMAR_NO_MEMORY;
-}
-
-static inline uint32_t selqumar_compact_or_null(struct selqumar_handle *handle, uint32_t max_rows, uint8_t *out, size_t room, size_t *needed) {
-  return selqumar_compact(handle, max_rows, selqumar_some_out(out), room, needed);
-}
-
-static inline uint32_t selqumar_stats_of_or_null(struct selqumar_handle *handle, uint32_t workers, uint8_t *out, size_t room, size_t *needed) {
-  return selqumar_stats_of(handle, workers, selqumar_some_out(out), room, needed);
-}
-
-static inline uint32_t selqumar_open_stats_or_null(struct selqumar_handle *handle, uint8_t *out, size_t room, size_t *needed) {
-  return selqumar_open_stats(handle, selqumar_some_out(out), room, needed);
-}
-
-static inline uint32_t selqumar_open_export_or_null(struct selqumar_handle *handle, uint8_t *out, size_t room, size_t *needed) {
-  return selqumar_open_export(handle, selqumar_some_out(out), room, needed);
-}
-
-static inline uint32_t selqumar_open_query_or_null(struct selqumar_handle *handle, const uint8_t *query, size_t query_length, uint8_t *out,
-                                                   size_t room, size_t *needed) {
-  return selqumar_open_query(handle, selqumar_some(query), query_length, selqumar_some_out(out), room, needed);
-}
-
-static inline void selqumar_close_or_null(struct selqumar_handle *handle) {
-  if (handle)
-    selqumar_close(handle);
-}
-
-static inline uint32_t selqumar_snapshot_stats_or_null(struct selqumar_snapshot *snapshot, uint32_t workers, uint8_t *out, size_t room, size_t *needed) {
-  return selqumar_snapshot_stats(snapshot, workers, selqumar_some_out(out), room, needed);
-}
-
-static inline uint32_t selqumar_snapshot_export_or_null(struct selqumar_snapshot *snapshot, uint8_t *out, size_t room, size_t *needed) {
-  return selqumar_snapshot_export(snapshot, selqumar_some_out(out), room, needed);
-}
-
-static inline uint32_t selqumar_snapshot_query_or_null(struct selqumar_snapshot *snapshot, const uint8_t *query, size_t query_length, uint8_t *out,
-                                                       size_t room, size_t *needed) {
-  return selqumar_snapshot_query(snapshot, selqumar_some(query), query_length, selqumar_some_out(out), room, needed);
-}
-
-static inline uint32_t selqumar_answer_or_null(struct selqumar_snapshot *snapshot, const uint8_t *query, size_t query_length, struct selqumar_handle *handle,
-                                               uint8_t *out, size_t room, size_t *needed) {
-  return selqumar_answer(snapshot, selqumar_some(query), query_length, handle, selqumar_some_out(out), room, needed);
-}
-
-/* So many columns of nothing, for the functions want whole nodes to write over. */
-static inline struct selqumar_node *selqumar_empty_nodes(struct selqumar_node *nodes, size_t room) {
-  struct selqumar_bytes none;
-  size_t i;
-  none.data = (const uint8_t *)selqumar_nothing();
-  none.length = 0;
-  for (i = 0; i < room; i++) {
-    nodes[i].format = nodes[i].name = nodes[i].validity = nodes[i].first = nodes[i].second = none;
-    nodes[i].nullable = nodes[i].dictionary = 0;
-    nodes[i].children = nodes[i].length = nodes[i].null_count = 0;
-  }
-  return nodes ? nodes : (struct selqumar_node *)selqumar_nothing();
-}
-
-static inline uint32_t selqumar_lend_or_null(struct selqumar_snapshot *snapshot, size_t batch, uint32_t *rows, struct selqumar_node *nodes, size_t room,
-                                             size_t *needed) {
-  return selqumar_lend(snapshot, batch, rows, selqumar_empty_nodes(nodes, room), room, needed);
-}
-
-static inline uint32_t selqumar_lend_fields_or_null(struct selqumar_snapshot *snapshot, struct selqumar_node *nodes, size_t room, size_t *needed) {
-  return selqumar_lend_fields(snapshot, selqumar_empty_nodes(nodes, room), room, needed);
-}
-
-static inline void selqumar_snapshot_close_or_null(struct selqumar_snapshot *snapshot) {
-  if (snapshot)
-    selqumar_snapshot_close(snapshot);
-}
-
-#define selqumar_stats(...) selqumar_stats_or_null(__VA_ARGS__)
-#define selqumar_export(...) selqumar_export_or_null(__VA_ARGS__)
-#define selqumar_query(...) selqumar_query_or_null(__VA_ARGS__)
-#define selqumar_validate(...) selqumar_validate_or_null(__VA_ARGS__)
-#define selqumar_open(...) selqumar_open_or_null(__VA_ARGS__)
-#define selqumar_new(...) selqumar_new_or_null(__VA_ARGS__)
-#define selqumar_append(...) selqumar_append_or_null(__VA_ARGS__)
-#define selqumar_add_column(...) selqumar_add_column_or_null(__VA_ARGS__)
-#define selqumar_compact(...) selqumar_compact_or_null(__VA_ARGS__)
-#define selqumar_stats_of(...) selqumar_stats_of_or_null(__VA_ARGS__)
-#define selqumar_open_stats(...) selqumar_open_stats_or_null(__VA_ARGS__)
-#define selqumar_open_export(...) selqumar_open_export_or_null(__VA_ARGS__)
-#define selqumar_open_query(...) selqumar_open_query_or_null(__VA_ARGS__)
-#define selqumar_close(...) selqumar_close_or_null(__VA_ARGS__)
-#define selqumar_snapshot_stats(...) selqumar_snapshot_stats_or_null(__VA_ARGS__)
-#define selqumar_snapshot_export(...) selqumar_snapshot_export_or_null(__VA_ARGS__)
-#define selqumar_snapshot_query(...) selqumar_snapshot_query_or_null(__VA_ARGS__)
-#define selqumar_answer(...) selqumar_answer_or_null(__VA_ARGS__)
-#define selqumar_lend(...) selqumar_lend_or_null(__VA_ARGS__)
-#define selqumar_lend_fields(...) selqumar_lend_fields_or_null(__VA_ARGS__)
-#define selqumar_snapshot_close(...) selqumar_snapshot_close_or_null(__VA_ARGS__)
+bool selqumar_fault_of(const uint8_t *line, size_t length, struct selqumar_fault *fault);
 
 #ifdef __cplusplus
 }

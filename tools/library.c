@@ -6,9 +6,11 @@
      library nulls CALL FILES
      library fault LINE
 
-   A call is one of those on files, or `nodes`: all that make, fill and change a table of columns in memory, and hand it on. For the first two `refusals.c` has to be loaded. The query of `query` is the text of the variable QUERY. The status is 0 where all is as it should
-   be. */
+   A call is one of those on files, on a table that is open or on a snapshot, by its name, or `nodes`: all that make, fill and change a table of columns in
+   memory, and hand it on. For the first two `refusals.c` has to be loaded. The query of `query` is the text of the variable QUERY. The status is 0 where all is
+   as it should be. */
 #include "selqumar_arrow.h"
+#include <inttypes.h>
 #include <pthread.h>
 #include <stdio.h>
 #include <stdlib.h>
@@ -30,26 +32,56 @@ struct answer {
   uint8_t *out;
 };
 
-/* Opens a table of the files, opens another in its place, calls the function on that one, and closes it. */
+/* Puts a text where a call without a writer would. */
+static void put(void *state, uint32_t status, const uint8_t *text, size_t length) {
+  struct answer *answer = (struct answer *)state;
+  answer->status = status;
+  answer->needed = length;
+  memcpy(answer->out, text, length);
+}
+
+/* Calls the function on a table and on a snapshot of it. */
+static uint32_t call_on_open(struct selqumar_handle *handle, struct selqumar_snapshot *snapshot, struct answer *answer) {
+  const uint8_t *text = (const uint8_t *)query;
+  const size_t length = strlen(query);
+  if (!strcmp(name, "open_stats"))
+    return selqumar_open_stats(handle, 1, answer->out, ROOM, &answer->needed);
+  if (!strcmp(name, "open_export"))
+    return selqumar_open_export(handle, answer->out, ROOM, &answer->needed);
+  if (!strcmp(name, "open_query"))
+    return selqumar_open_query(handle, text, length, answer->out, ROOM, &answer->needed);
+  if (!strcmp(name, "open_stats_to"))
+    return selqumar_open_stats_to(handle, 1, put, answer);
+  if (!strcmp(name, "open_export_to"))
+    return selqumar_open_export_to(handle, put, answer);
+  if (!strcmp(name, "open_query_to"))
+    return selqumar_open_query_to(handle, text, length, put, answer);
+  if (!strcmp(name, "snapshot_stats_to"))
+    return selqumar_snapshot_stats_to(snapshot, 1, put, answer);
+  if (!strcmp(name, "snapshot_export_to"))
+    return selqumar_snapshot_export_to(snapshot, put, answer);
+  return selqumar_snapshot_query_to(snapshot, text, length, put, answer);
+}
+
+/* Opens a table of the files, opens another in its place, calls the function on that one, or on a snapshot of it, and closes both. */
 static void call_on_table(struct answer *answer) {
   struct selqumar_handle handle = SELQUMAR_CLOSED;
-  for (int time = 0; time < 2; time++) {
+  struct selqumar_snapshot snapshot = SELQUMAR_CLOSED;
+  answer->status = SELQUMAR_GIVEN;
+  for (int time = 0; time < 2 && answer->status == SELQUMAR_GIVEN; time++) {
     answer->needed = UNTOUCHED;
     answer->status = selqumar_open(files, count, &handle, answer->out, ROOM, &answer->needed);
-    if (answer->status != SELQUMAR_GIVEN) {
-      selqumar_close(&handle);
-      return;
-    }
   }
-  answer->needed = UNTOUCHED;
-  if (!strcmp(name, "open_stats"))
-    answer->status = selqumar_open_stats(&handle, answer->out, ROOM, &answer->needed);
-  else if (!strcmp(name, "open_export"))
-    answer->status = selqumar_open_export(&handle, answer->out, ROOM, &answer->needed);
-  else
-    answer->status = selqumar_open_query(&handle, (const uint8_t *)query, strlen(query), answer->out, ROOM, &answer->needed);
-  if (!handle.is_open)
-    answer->status = SELQUMAR_NOT_OPEN;
+  if (answer->status == SELQUMAR_GIVEN) {
+    answer->needed = UNTOUCHED;
+    answer->status = selqumar_snapshot_open(&handle, &snapshot);
+  }
+  if (answer->status == SELQUMAR_GIVEN) {
+    answer->status = call_on_open(&handle, &snapshot, answer);
+    if (!handle.is_open || !snapshot.is_open)
+      answer->status = SELQUMAR_NOT_OPEN;
+  }
+  selqumar_snapshot_close(&snapshot);
   selqumar_close(&handle);
 }
 
@@ -67,7 +99,7 @@ static uint32_t hand_on(struct selqumar_handle *handle, struct answer *answer) {
   if (status == SELQUMAR_GIVEN)
     status = selqumar_arrow_open_stream(&other, 0, &stream, &batches, &rows, answer->out, ROOM, &answer->needed);
   if (status == SELQUMAR_GIVEN)
-    status = selqumar_stats_of(&other, 1, answer->out, ROOM, &answer->needed);
+    status = selqumar_open_stats(&other, 1, answer->out, ROOM, &answer->needed);
   selqumar_close(&other);
   return status;
 }
@@ -77,11 +109,11 @@ static uint32_t ask(struct selqumar_handle *handle, struct answer *answer) {
   static const char sums[] = "{\"by\":[\"t\"],\"aggs\":[{\"agg\":\"sum\",\"column\":\"n\"}]}";
   struct selqumar_handle other = SELQUMAR_CLOSED;
   struct selqumar_snapshot snapshot = SELQUMAR_CLOSED;
-  uint32_t status = selqumar_snapshot(handle, &snapshot);
+  uint32_t status = selqumar_snapshot_open(handle, &snapshot);
   if (status == SELQUMAR_GIVEN)
     status = selqumar_answer(&snapshot, (const uint8_t *)sums, sizeof sums - 1, &other, answer->out, ROOM, &answer->needed);
   if (status == SELQUMAR_GIVEN)
-    status = selqumar_stats_of(&other, 1, answer->out, ROOM, &answer->needed);
+    status = selqumar_open_stats(&other, 1, answer->out, ROOM, &answer->needed);
   selqumar_snapshot_close(&snapshot);
   selqumar_close(&other);
   return status;
@@ -113,7 +145,7 @@ static uint32_t steps(struct selqumar_handle *handle, struct answer *answer) {
     status = hand_on(handle, answer);
   if (status == SELQUMAR_GIVEN)
     status = ask(handle, answer);
-  return status == SELQUMAR_GIVEN ? selqumar_stats_of(handle, 3, out, ROOM, needed) : status;
+  return status == SELQUMAR_GIVEN ? selqumar_open_stats(handle, 3, out, ROOM, needed) : status;
 }
 
 /* The steps, over a table that is open, and twice. What memory stopped has printed nothing. */
@@ -135,8 +167,14 @@ static void call(struct answer *answer) {
   answer->needed = UNTOUCHED;
   if (!strcmp(name, "nodes"))
     call_on_nodes(answer);
-  else if (!strncmp(name, "open_", 5))
+  else if (!strncmp(name, "open_", 5) || !strncmp(name, "snapshot_", 9))
     call_on_table(answer);
+  else if (!strcmp(name, "stats_to"))
+    answer->status = selqumar_stats_to(files, count, put, answer);
+  else if (!strcmp(name, "export_to"))
+    answer->status = selqumar_export_to(files, count, put, answer);
+  else if (!strcmp(name, "query_to"))
+    answer->status = selqumar_query_to(files, count, (const uint8_t *)query, strlen(query), put, answer);
   else if (!strcmp(name, "stats"))
     answer->status = selqumar_stats(files, count, answer->out, ROOM, &answer->needed);
   else if (!strcmp(name, "export"))
@@ -235,7 +273,7 @@ static int nulls(struct answer *right, struct answer *other) {
   if (selqumar_open(NULL, 0, &one, NULL, 0, &needed) || selqumar_open((const struct selqumar_bytes *)nowhere, 0, &two, nowhere, 0, &also) || needed || also)
     return printf("no files aren't opened\n"), 1;
   uint32_t statuses[][2] = {
-      {selqumar_open_stats(&one, NULL, 0, &needed), selqumar_open_stats(&two, nowhere, 0, &also)},
+      {selqumar_open_stats(&one, 1, NULL, 0, &needed), selqumar_open_stats(&two, 1, nowhere, 0, &also)},
       {selqumar_open_export(&one, NULL, 0, &needed), selqumar_open_export(&two, nowhere, 0, &also)},
       {selqumar_open_query(&one, NULL, 0, NULL, 0, &needed), selqumar_open_query(&two, nowhere, 0, nowhere, 0, &also)},
       {selqumar_stats(NULL, 0, NULL, 0, &needed), selqumar_stats((const struct selqumar_bytes *)nowhere, 0, nowhere, 0, &also)},

@@ -4,11 +4,12 @@
     tools/library.py PROGRAM [FOLDER]
 
 Without a folder the library is built in `build`; where one is named, that which stands there is taken. Each case is a call over some files; the program
-gets the same files under the names `0`, `1` and so on, since the library names them by their numbers. `library_build.py` and `library_python.py` have
-further cases. The last line is 'N passed, M failed'."""
+gets the same files under the names `0`, `1` and so on, since the library names them by their numbers. `library_build.py`, `library_python.py`, `library_table.py`,
+`library_hostile.py` and `library_edges.py` have further cases. The last line is 'N passed, M failed'."""
 import ctypes
 import json
 import os
+import re
 import shutil
 import subprocess
 import sys
@@ -323,7 +324,7 @@ def check_memory(program, folder, room):
     check("the deepest file and filter", difference(printed(program, room, "query", [deep], query.encode()), (True, "0\n")))
     loaded = {"LD_PRELOAD": built(room)}
     mixed = os.path.join(TOP, "examples", "mixed.json")
-    for call in [*CALLS, *(f"open_{call}" for call in OPEN_CALLS)]:
+    for call in [*CALLS, *(f"open_{call}" for call in OPEN_CALLS), *(f"{front}{call}_to" for front in ("", "open_", "snapshot_") for call in OPEN_CALLS)]:
         for how, more, files in (("repeated", loaded, [mixed]), ("refused", loaded, [mixed]), ("nulls", {}, [mixed, mixed]), ("stack", {}, [mixed]),
                                  ("stack", {"QUERY": query}, [os.path.join(room, "deep")])):
             words = [os.path.join(folder, "library"), how, call, *files]
@@ -350,6 +351,18 @@ def check_lines(selqumar, folder):
         check(f"the line {line!r}", difference(ran.stdout.split()[:len(wanted)], wanted))
 
 
+def check_version(selqumar, library):
+    """The library tells its version, and has all that the headers declare."""
+    declared = set()
+    for name in ("selqumar.h", "selqumar_arrow.h"):
+        with open(os.path.join(TOP, "include", name), encoding="utf-8") as file:
+            text = re.sub(r"/\*.*?\*/", "", file.read(), flags=re.S)
+        declared |= {*re.findall(r"^(?!typedef)(?:[a-z][\w ]*[ *])(selqumar_\w+)[(\[]", text, re.M)}
+    found = ctypes.CDLL(library)
+    check("the version of the library", difference(f"{selqumar.LIBRARY}", f"libselqumar.so.{found.selqumar_version()}"))
+    check("what the headers declare", difference([name for name in sorted(declared) if not hasattr(found, name)], []) or (None if len(declared) > 40 else f"only {len(declared)}"))
+
+
 def library_in(words):
     """The folder that has the library, which is built where none is named."""
     if words:
@@ -364,6 +377,8 @@ def main():
     place = library_in(sys.argv[2:])
     library = os.environ["SELQUMAR_LIBRARY"] = os.path.join(place, "libselqumar.so")
     sys.path.insert(0, os.path.join(TOP, "python"))
+    import library_edges
+    import library_hostile
     import library_python
     import library_table
     import selqumar
@@ -375,7 +390,10 @@ def main():
         check_c_and_rust(program, os.path.join(place, "libselqumar.a"), folder, room)
         check_memory(program, folder, room)
         check_lines(selqumar, folder)
-        for what, fault in [*library_build.cases(folder), *library_python.cases(selqumar, library, other), *library_table.cases(selqumar)]:
+        archive = os.path.join(place, "libselqumar.a")
+        check_version(selqumar, library)
+        for what, fault in [*library_build.cases(folder), *library_hostile.cases(archive, folder), *library_python.cases(selqumar, library, other),
+                            *library_table.cases(selqumar), *library_edges.cases(selqumar, library)]:
             check(what, fault)
     print(f"{passed} passed, {failed} failed")
     return failed > 0

@@ -38,7 +38,7 @@ FOREIGN = {
 }
 
 SKIPPED = ("out", "build", ".git", "__pycache__")
-OF_CODE = ("crates", "tools", "include", "python", "bench", "examples")
+OF_CODE = ("crates", "c", "tools", "include", "python", "bench", "examples")
 ENDINGS = (".antt", ".rt", ".py", ".md", ".c", ".h", ".rs", ".txt", ".edit", ".json")
 COMMENTS = {".rt": "//", ".antt": "--", ".c": "//", ".h": "//", ".rs": "//", ".py": "#", "": "#"}
 SPAN = re.compile(r"`([^`]+)`")

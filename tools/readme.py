@@ -20,7 +20,7 @@ DOCUMENTS = ("README.md", "docs/QUERIES.md", "docs/FAULTS.md")
 SHIPPED = ("examples", "crates/program/data", "tools", "python")
 # What asks the program about itself, and the file that has what it says.
 HELP = ((["--help"], "arrowtab"), (["help", "stats"], "stats"), (["help", "schema"], "schema"), (["help", "validate"], "validate"), (["help", "head"], "head"), (["help", "export"], "export"), (["help", "query"], "query"), (["--version"], "version"))
-LIBRARY = os.path.join(TOP, "build", "libselqumar.so.1")
+LIBRARY = os.path.join(TOP, "build", "libselqumar.so.2")
 # A command that takes longer waits for something that never comes.
 SECONDS = 60
 
