@@ -19,10 +19,10 @@ from refusals import TOP, compiler
 SECONDS = 120
 MIXED = os.path.join(TOP, "examples", "mixed.json")
 QUERY = '{"by":["city"],"aggs":[{"agg":"rows"}]}'
-INSTALLED = """bin/arrowtab bin/arrowtab-shards include/selqumar.h include/selqumar_arrow.h lib/libselqumar.a lib/libselqumar.so lib/libselqumar.so.1 lib/pkgconfig/selqumar.pc
+INSTALLED = """bin/arrowtab bin/arrowtab-shards include/selqumar.h include/selqumar_arrow.h lib/libselqumar.a lib/libselqumar.so lib/libselqumar.so.2 lib/pkgconfig/selqumar.pc
 share/bash-completion/completions/arrowtab share/doc/selqumar/CHANGELOG.md share/doc/selqumar/FAULTS.md share/doc/selqumar/NOTICE
 share/doc/selqumar/QUERIES.md share/doc/selqumar/README.md share/doc/selqumar/SECURITY.md share/doc/selqumar/SHARDS.md share/man/man1/arrowtab.1
-share/selqumar/selqumar/__init__.py share/selqumar/selqumar/_asked.py share/selqumar/selqumar/_columns.py share/selqumar/selqumar/_files.py share/selqumar/selqumar/_library.py
+share/selqumar/selqumar/__init__.py share/selqumar/selqumar/_arrow.py share/selqumar/selqumar/_asked.py share/selqumar/selqumar/_columns.py share/selqumar/selqumar/_files.py share/selqumar/selqumar/_library.py
 share/selqumar/selqumar/_memory.py share/selqumar/selqumar/_table.py share/selqumar/selqumar/_values.py share/selqumar/selqumar/py.typed share/selqumar/shard_groups.py share/selqumar/shard_runs.py share/selqumar/shards""".split()
 # Where the version stands, and how.
 VERSIONS = {

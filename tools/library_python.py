@@ -140,10 +140,10 @@ def import_cases(library, room):
     yield "there is no library", difference(imported(), ("ImportError", True))
     yield "it is no library", difference(imported(SELQUMAR_LIBRARY=os.path.join(TOP, "README.md")), ("ImportError", True))
     yield "it is another library", difference(imported(SELQUMAR_LIBRARY="libc.so.6"), ("ImportError", True))
-    os.symlink(library, os.path.join(room, "build", "libselqumar.so.1"))
+    os.symlink(library, os.path.join(room, "build", "libselqumar.so.2"))
     yield "the library of the tree", difference(imported(), ("", False))
-    os.symlink(library, os.path.join(package, "libselqumar.so.1"))
-    os.remove(os.path.join(room, "build", "libselqumar.so.1"))
+    os.symlink(library, os.path.join(package, "libselqumar.so.2"))
+    os.remove(os.path.join(room, "build", "libselqumar.so.2"))
     yield "the library beside the module", difference(imported(), ("", False))
 
 

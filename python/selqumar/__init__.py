@@ -6,10 +6,12 @@
         table.query({"by": ["city"], "aggs": [{"agg": "sum", "column": "people"}]})
     selqumar.stats("examples/mixed.json").column("people")
 
-Files are one or several of: `bytes`, `bytearray`, a `memoryview` of bytes or an `mmap`, which are read where they lie, or a path, whose file is read.
-Whatever stands against a call is raised as a `Fault`, with the line that the program would report, or as a `MemoryError`.
+Files are one or several of: `bytes`, or a `memoryview` of these, which are read where they lie; a `bytearray`, another `memoryview` or an `mmap`, which are copied first,
+since what they hold may change; or a path, whose file is read. Where a file that is mapped is cut meanwhile, the system ends the process (SIGBUS), as for whoever reads it.
+Whatever stands against a call is raised as a `Fault`, with the line that the program would report, as a `MemoryError`, or, of what is no file, no rows and no query, as a
+`TypeError`, a `ValueError` or an `OverflowError`.
 
-The library is the file that the variable SELQUMAR_LIBRARY names, or else `libselqumar.so.1` in this folder or in `build` of the repository, where
+The library is the file that the variable SELQUMAR_LIBRARY names, or else `libselqumar.so.2` in this folder or in `build` of the repository, where
 `tools/library build` puts it."""
 from __future__ import annotations
 

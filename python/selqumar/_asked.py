@@ -2,16 +2,20 @@
 from __future__ import annotations
 
 import ctypes
+import html
+import os
 import threading
 import weakref
-from typing import Any, Optional
+from typing import Any, Optional, TypeVar
 
 from . import _files, _library, _values
 from ._files import Query
 from ._values import Stats, Value
 
-_capsule = ctypes.pythonapi.PyCapsule_New
-_capsule.restype, _capsule.argtypes = ctypes.py_object, [ctypes.c_void_p, ctypes.c_char_p, ctypes.c_void_p]
+# Prototypes of the module's own: whatever others set on `ctypes.pythonapi` holds for the whole process.
+_new_capsule = ctypes.PYFUNCTYPE(ctypes.py_object, ctypes.c_void_p, ctypes.c_void_p, ctypes.c_void_p)(("PyCapsule_New", ctypes.pythonapi))
+
+Self = TypeVar("Self", bound="Asked")
 
 
 class Asked:
@@ -29,11 +33,22 @@ class Asked:
         # It is there before anything is open, so that whatever comes in between, what was opened is closed.
         self._finalizer = weakref.finalize(self, _library.close, self._CLOSE, self._handle)
         self._finalizer.atexit = False
+        _all.add(self)
 
     def _closed_where_raised(self) -> _Closing:
         return _Closing(self._finalizer)
 
-    def __enter__(self) -> Any:
+    def _leave_to_parent(self) -> None:
+        """In a forked child: a thread that isn't here may have left it half changed, so that nothing but its parent has it."""
+        if self._lock.acquire(blocking=False):
+            self._lock.release()
+            return
+        self._lock = threading.RLock()
+        self._finalizer.detach()
+        self._handle = _library.Handle()
+        self._rooms.closed = "selqumar: the table is closed in this process, which was forked while another thread was in a call of it"
+
+    def __enter__(self: Self) -> Self:
         return self
 
     def __exit__(self, *_: object) -> None:
@@ -45,11 +60,12 @@ class Asked:
             if self.closed:
                 return f"<{kind}, closed>"
             stats = self.stats()
-        return f"<{kind} of {stats.rows} row{'' if stats.rows == 1 else 's'}: {', '.join(column.name for column in stats.columns)}>"
+        return f"<{kind} of {stats.rows} row{'' if stats.rows == 1 else 's'}: {', '.join(_shown(column.name) for column in stats.columns)}>"
 
     def _repr_html_(self) -> str:
         """The statistics of its columns, for a notebook."""
-        return self.stats()._repr_html_()
+        with self._lock:
+            return html.escape(repr(self)) if self.closed else self.stats()._repr_html_()
 
     @property
     def closed(self) -> bool:
@@ -87,7 +103,7 @@ class Asked:
         """Its batches, as it stands, for `pyarrow.table(table)` and whatever else takes an Arrow stream. No row is copied; texts are dictionary-encoded. Another
         schema than its own it has not."""
         stream = _library.new_stream()
-        capsule = _capsule(stream, b"arrow_array_stream", _library.END_OF_CAPSULE)
+        capsule = _new_capsule(stream, _library.NAME_OF_CAPSULE, _library.END_OF_CAPSULE)
         with self._lock:
             self._rooms.done(self._STREAM, ctypes.byref(self._handle), stream)
         return capsule
@@ -95,6 +111,11 @@ class Asked:
     def _text(self, name: str, *middle: Any) -> str:
         with self._lock:
             return self._rooms.text(name, ctypes.byref(self._handle), *middle, least=_files.least(name, self._length))
+
+
+def _shown(name: str) -> str:
+    """A name in one line."""
+    return "".join(it if it.isprintable() else ascii(it)[1:-1] for it in name)
 
 
 class _Closing:
@@ -109,3 +130,15 @@ class _Closing:
     def __exit__(self, kind: Optional[type], *_: object) -> None:
         if kind is not None:
             self._finalizer()
+
+
+# Tables and snapshots that somebody has.
+_all: weakref.WeakSet[Asked] = weakref.WeakSet()
+
+
+def _after_fork() -> None:
+    for asked in list(_all):
+        asked._leave_to_parent()
+
+
+os.register_at_fork(after_in_child=_after_fork)

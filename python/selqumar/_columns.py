@@ -2,6 +2,7 @@
 from __future__ import annotations
 
 import ctypes
+import math
 import re
 from array import array
 from collections.abc import Iterable, Iterator, Mapping, Sequence
@@ -52,7 +53,13 @@ class _Part:
 
 def fields_of(schema: Schema) -> list[tuple[str, Field]]:
     """The names and the fields of a schema."""
-    return [(name, field if isinstance(field, Field) else Field(field)) for name, field in schema.items()]
+    return [(_name(name), field if isinstance(field, Field) else Field(field)) for name, field in schema.items()]
+
+
+def _name(name: object) -> str:
+    if not isinstance(name, str):
+        raise TypeError(f"selqumar: the name of a column is a text, and not {name!r}")
+    return name
 
 
 def parts_of_fields(fields: Iterable[tuple[str, Field]]) -> list[_Part]:
@@ -66,8 +73,8 @@ def parts_of_columns(columns: Iterable[tuple[str, str, Any]]) -> list[_Part]:
 
 
 def _column(name: str, kind: str, nullable: bool, values: Any) -> list[_Part]:
-    values, mask = _without_mask(values)
     try:
+        values, mask = _without_mask(values)
         if kind in _NUMBERS:
             return [_numbers(name, kind, nullable, values, mask)]
         items = [None if mask is not None and mask[i] else value for i, value in enumerate(_items(values))]
@@ -76,20 +83,34 @@ def _column(name: str, kind: str, nullable: bool, values: Any) -> list[_Part]:
         if kind in _TEXTS:
             return [_texts(name, kind, nullable, items)]
         return _lists(name, kind, nullable, items)
-    except (TypeError, OverflowError, UnicodeEncodeError) as fault:
-        raise type(fault)(*fault.args[:-1], f"selqumar: column {name!r} of {kind}: {fault.args[-1]}") from fault
+    except UnicodeEncodeError as fault:
+        fault.reason = _told(name, kind, fault)
+        raise
+    except OverflowError as fault:
+        raise OverflowError(_told(name, kind, fault)) from fault
+    except TypeError as fault:
+        raise TypeError(_told(name, kind, fault)) from fault
 
 
-def _without_mask(values: Any) -> tuple[Any, Optional[Sequence[bool]]]:
-    """Values, and which of them are null, where they say so beside the values: numpy's masked arrays, and pandas' columns."""
+def _told(name: str, kind: str, fault: Exception) -> str:
+    return f"selqumar: column {name!r} of {kind}: {(fault.args or ('no such values',))[-1]}"
+
+
+def _without_mask(values: Any) -> tuple[Any, Any]:
+    """Values, and which of them are null, where they say so beside the values: numpy's masked arrays, and pandas' columns, arrays and indices."""
+    if getattr(getattr(values, "dtype", None), "kind", "") in ("M", "m"):
+        raise TypeError("it has no dates and no times: hand them in as integers, as by astype('int64'), in a unit of your own")
     if hasattr(values, "filled") and hasattr(values, "mask"):
         import numpy
+        if values.ndim != 1:
+            return values.tolist(), None
         return values.filled(0) if values.dtype.kind in "iub" else values.filled(None), numpy.broadcast_to(values.mask, values.shape)
     if hasattr(values, "isna") and hasattr(values, "to_numpy"):
-        mask = values.isna().to_numpy()
+        import numpy
+        mask = numpy.asarray(values.isna())
         if not mask.any():
             return values.to_numpy(), None
-        return [None if is_null else value for is_null, value in zip(mask, values.tolist())], None
+        return [None if is_null else value for is_null, value in zip(mask, list(values))], None
     return values, None
 
 
@@ -97,7 +118,7 @@ def _items(values: Any) -> list[Any]:
     """The values as a list of Python's own."""
     if isinstance(values, (str, bytes, bytearray, Mapping)) or not isinstance(values, Iterable):
         raise TypeError(f"its values are a list or an array, and not {type(values).__name__}")
-    return values.tolist() if hasattr(values, "tolist") else list(values)
+    return list(values.tolist() if hasattr(values, "tolist") else values)
 
 
 def _validity(items: Sequence[Any]) -> tuple[bytes, int]:
@@ -112,16 +133,27 @@ def _bits(flags: Sequence[Any]) -> bytes:
     return int(digits or "0", 2).to_bytes((len(flags) + 7) // 8, "little")
 
 
-def _numbers(name: str, kind: str, nullable: bool, values: Any, mask: Optional[Sequence[bool]]) -> _Part:
+def _numbers(name: str, kind: str, nullable: bool, values: Any, mask: Any) -> _Part:
     letter, code = _NUMBERS[kind]
     if hasattr(values, "dtype") and values.dtype.kind in "iu":
         return _of_numpy(_Part(letter, name, nullable, 0, len(values), 0), kind, values, mask)
-    items = _items(values)
+    items = [None if mask is not None and mask[i] else _whole(value) for i, value in enumerate(_items(values))]
     validity, nulls = _validity(items)
     return _Part(letter, name, nullable, 0, len(items), nulls, validity, array(code, [0 if item is None else item for item in items]))
 
 
-def _of_numpy(part: _Part, kind: str, values: Any, mask: Optional[Sequence[bool]]) -> _Part:
+def _whole(value: Any) -> Any:
+    """A number. A float that is whole is one, and one that is no number is a null, as pandas has integers with nulls."""
+    if not isinstance(value, float):
+        return value
+    if math.isnan(value):
+        return None
+    if not value.is_integer():
+        raise TypeError(f"{value!r} is no whole number")
+    return int(value)
+
+
+def _of_numpy(part: _Part, kind: str, values: Any, mask: Any) -> _Part:
     """An array of integers. It is handed on as it lies where it has the column's type, and copied where its numbers are of that type."""
     import numpy
     wanted = numpy.dtype(kind).newbyteorder("<")
@@ -138,7 +170,8 @@ def _of_numpy(part: _Part, kind: str, values: Any, mask: Optional[Sequence[bool]
 
 def _bools(name: str, nullable: bool, items: list[Any]) -> _Part:
     for item in items:
-        if item is not None and not isinstance(item, (bool, int)):
+        # Those of numpy are no `bool`.
+        if item is not None and not isinstance(item, bool) and getattr(getattr(item, "dtype", None), "kind", "") != "b":
             raise TypeError(f"{item!r} is no truth value")
     validity, nulls = _validity(items)
     return _Part("b", name, nullable, 0, len(items), nulls, validity, _bits(items))
@@ -155,9 +188,9 @@ def _texts(name: str, kind: str, nullable: bool, items: list[Any]) -> _Part:
 
 
 def _lists(name: str, kind: str, nullable: bool, items: list[Any]) -> list[_Part]:
-    told = _LIST.fullmatch(kind)
+    told = _LIST.fullmatch(kind) if isinstance(kind, str) else None
     if told is None:
-        raise TypeError("there is no such type")
+        raise TypeError(f"there is no such type; there are {', '.join([*_NUMBERS, 'bool', *_TEXTS])}, list<T> and largelist<T>")
     letter, code = _LISTS[told[1]]
     lists = [[] if item is None else _items(item) for item in items]
     validity, nulls = _validity(items)
@@ -165,7 +198,7 @@ def _lists(name: str, kind: str, nullable: bool, items: list[Any]) -> list[_Part
     return [_Part(letter, name, nullable, 1, len(items), nulls, validity, _offsets(code, lists)), *inside]
 
 
-def _offsets(code: str, parts: Sequence[Any]) -> array:
+def _offsets(code: str, parts: Sequence[Any]) -> array[int]:
     return array(code, accumulate(map(len, parts), initial=0))
 
 

@@ -8,7 +8,7 @@ from collections.abc import Iterable, Iterator, Mapping
 from contextlib import ExitStack, contextmanager
 from typing import Any, Union
 
-from ._library import ROOM, Bytes
+from ._library import ROOM, Bytes, Fault
 from ._memory import held
 
 File = Union[bytes, bytearray, memoryview, mmap.mmap, str, os.PathLike[str]]
@@ -16,21 +16,21 @@ Files = Union[File, Iterable[File]]
 Query = Union[str, bytes, Mapping[str, Any]]
 
 
-def _is_file(value: object) -> bool:
-    return isinstance(value, (bytes, bytearray, memoryview, mmap.mmap, str, os.PathLike))
+_FILES = (bytes, bytearray, memoryview, mmap.mmap, str, os.PathLike)
 
 
 def listed(files: Files) -> list[File]:
     """One file or several, as a list."""
-    if _is_file(files):
+    if isinstance(files, _FILES):
         return [files]
     # What is open gives lines, and a mapping its keys.
     if not isinstance(files, Iterable) or isinstance(files, Mapping) or hasattr(files, "read"):
         raise _no_file(files)
-    found = list(files)
-    for file in found:
-        if not _is_file(file):
+    found: list[File] = []
+    for file in files:
+        if not isinstance(file, _FILES):
             raise _no_file(file)
+        found.append(file)
     return found
 
 
@@ -38,23 +38,34 @@ def _no_file(value: object) -> TypeError:
     return TypeError(f"selqumar: a file is bytes, a bytearray, a memoryview, an mmap or a path, and not {type(value).__name__}")
 
 
-def _data(file: File) -> Union[bytes, bytearray, memoryview, mmap.mmap]:
-    """The bytes of a file, which a path is read for."""
+def _data(file: File) -> Union[bytes, memoryview]:
+    """The bytes of a file, as they are now: what could change while it is read is copied."""
     if isinstance(file, (str, os.PathLike)):
         with open(file, "rb") as source:
             return source.read()
-    if isinstance(file, memoryview) and not (file.itemsize == 1 and file.c_contiguous):
+    if isinstance(file, bytes):
+        return file
+    if not isinstance(file, memoryview):
+        return bytes(file)
+    if not (file.itemsize == 1 and file.c_contiguous):
         raise TypeError("selqumar: a memoryview has to be of bytes that lie one behind the other")
-    return file
+    # A view that is read only may be of what others write to.
+    return file if type(file.obj) is bytes else file.tobytes()
 
 
 @contextmanager
 def entries(files: list[File]) -> Iterator[tuple[Any, int]]:
-    """The entries of files for a call, and how many bytes all have."""
+    """The entries of files for a call, and how many bytes all have. A fault of the call names a file by its path, where it has one."""
     with ExitStack() as stack:
         found = [stack.enter_context(held(_data(file))) for file in files]
         # An array has an address, also where there is no file.
-        yield (Bytes * max(len(found), 1))(*found), sum(entry.length for entry in found)
+        try:
+            yield (Bytes * max(len(found), 1))(*found), sum(entry.length for entry in found)
+        except Fault as fault:
+            file = files[fault.file] if fault.file is not None else None
+            if isinstance(file, (str, os.PathLike)):
+                fault._name(os.fsdecode(file))
+            raise
 
 
 def least(name: str, length: int) -> int:

@@ -7,33 +7,48 @@ import re
 from typing import Any, Optional
 
 # The shared library whose functions these are, by the number that its header counts.
-LIBRARY = "libselqumar.so.1"
+LIBRARY = "libselqumar.so.2"
+_VERSION = 2
 GIVEN, FAULT, SHORT, NO_MEMORY, NOT_OPEN = range(5)
 # A buffer of a call has so many bytes, or as many as the last call needed.
 ROOM = 4096
 
 
-class Fault(Exception):
-    """Why there is no answer. Its text is the line that the program would report, in which a file is named by its number, from 0.
+class Fault(ValueError):
+    """Why there is no answer. Its text is the line that the program would report, in which a file that was handed in as bytes is named by its number, from 0.
 
-    `code` is the fault's number, such as `J3`; `path` its place in the JSON of the file or the query, such as `/batches/0/count`; `file` the file's number,
-    `batch` the number of its batch, or of the batch of a stream; `column` and `row` the place in a batch, from 0. Each is None where nothing is told of it."""
+    `code` is the fault's number, such as `J3`; `path` its place in the JSON of the file or the query, such as `/batches/0/count`; `file` the file's number and
+    `filename` its path, where one was handed in; `batch` the number of its batch, or of the batch of a stream; `column` and `row` the place in a batch, from 0. Each is
+    None where nothing is told of it."""
 
-    LINE = re.compile(r"arrowtab: (?:(?:(?P<file>\d+)|\w+): )?(?:batch (?P<batch>\d+): )?(?P<code>[A-Z]\d+) [^/]*?(?: at (?P<path>/.*))?", re.S)
-    PLACE = re.compile(r" (column|row)=(\d+)")
+    _LINE = re.compile(r"arrowtab: (?:(?:(?P<file>\d+)|\w+): )?(?:batch (?P<batch>\d+): )?(?P<code>[A-Z]\d+)(?: (?P<what>.*))?", re.S)
+    _PLACE = re.compile(r" (column|row)=(\d+)")
 
     def __init__(self, line: str, batch: Optional[int] = None) -> None:
         super().__init__(line)
-        told = self.LINE.fullmatch(line)
+        told = self._LINE.fullmatch(line)
         parts = told.groupdict() if told else {}
-        # Behind a path any name may stand.
-        places = dict(self.PLACE.findall(line.partition(" at /")[0])) if told else {}
+        # Behind a path, and in what a producer says of its stream, any text may stand.
+        front, at, path = (parts.get("what") or "").partition(" at /")
+        front, code, _ = front.partition(" code=")
+        places = dict(self._PLACE.findall(front))
         self.code: Optional[str] = parts.get("code")
-        self.path: Optional[str] = parts.get("path")
+        self.path: Optional[str] = f"/{path}" if at and not code else None
         self.file: Optional[int] = _number(parts.get("file"))
+        self.filename: Optional[str] = None
         self.batch: Optional[int] = _number(parts.get("batch")) if batch is None else batch
         self.column: Optional[int] = _number(places.get("column"))
         self.row: Optional[int] = _number(places.get("row"))
+
+    def _name(self, filename: str) -> None:
+        """Names the file by its path, in one line."""
+        self.filename = filename
+        shown = re.sub(r"[\x00-\x1f\\\x7f]", lambda it: f"\\u{ord(it[0]):04x}", filename)
+        self.args = (str(self).replace(f"arrowtab: {self.file}: ", f"arrowtab: {shown}: ", 1),)
+
+
+# Where users find it.
+Fault.__module__ = "selqumar"
 
 
 def _number(digits: Optional[str]) -> Optional[int]:
@@ -57,8 +72,8 @@ _LIST = [ctypes.c_void_p, ctypes.c_size_t]
 _TEXT = [ctypes.c_void_p, ctypes.c_size_t]
 _OUT = [ctypes.c_void_p, ctypes.c_size_t, ctypes.c_void_p]
 _HANDLE = [ctypes.c_void_p]
-_STREAM = _HANDLE + [ctypes.c_uint32, ctypes.c_void_p, ctypes.c_void_p, ctypes.c_void_p] + _OUT
-_FUNCTIONS = {
+_FUNCTIONS: dict[str, list[Any]] = {
+    "selqumar_version": [],
     "selqumar_stats": _LIST + _OUT,
     "selqumar_export": _LIST + _OUT,
     "selqumar_query": _LIST + _TEXT + _OUT,
@@ -68,15 +83,14 @@ _FUNCTIONS = {
     "selqumar_append": _HANDLE + [ctypes.c_uint32, ctypes.c_uint32] + _LIST + _OUT,
     "selqumar_add_column": _HANDLE + _LIST + _OUT,
     "selqumar_compact": _HANDLE + [ctypes.c_uint32] + _OUT,
-    "selqumar_stats_of": _HANDLE + [ctypes.c_uint32] + _OUT,
+    "selqumar_open_stats": _HANDLE + [ctypes.c_uint32] + _OUT,
     "selqumar_open_export": _HANDLE + _OUT,
     "selqumar_open_query": _HANDLE + _TEXT + _OUT,
     "selqumar_close": _HANDLE,
     "selqumar_arrow_new": [ctypes.c_void_p] + _HANDLE + _OUT,
     "selqumar_arrow_append": _HANDLE + [ctypes.c_uint32, ctypes.c_void_p, ctypes.c_void_p] + _OUT,
-    "selqumar_arrow_open_stream": _STREAM,
-    "selqumar_arrow_append_stream": _STREAM,
-    "selqumar_snapshot": _HANDLE + _HANDLE,
+    "selqumar_arrow_take": [ctypes.c_void_p, ctypes.c_void_p],
+    "selqumar_snapshot_open": _HANDLE + _HANDLE,
     "selqumar_snapshot_stats": _HANDLE + [ctypes.c_uint32] + _OUT,
     "selqumar_snapshot_export": _HANDLE + _OUT,
     "selqumar_snapshot_query": _HANDLE + _TEXT + _OUT,
@@ -88,7 +102,8 @@ _FUNCTIONS = {
     "selqumar_arrow_end_capsule": [ctypes.c_void_p],
 }
 # What gives something else than a status.
-_GIVES = {"selqumar_close": None, "selqumar_snapshot_close": None, "selqumar_arrow_end_capsule": None, "selqumar_arrow_room": ctypes.c_void_p}
+_GIVES = {"selqumar_close": None, "selqumar_snapshot_close": None, "selqumar_arrow_end_capsule": None, "selqumar_arrow_room": ctypes.c_void_p,
+          "selqumar_arrow_take": ctypes.c_bool}
 
 
 def _loaded() -> ctypes.CDLL:
@@ -96,7 +111,7 @@ def _loaded() -> ctypes.CDLL:
     here = os.path.dirname(os.path.abspath(__file__))
     places = [os.path.join(here, LIBRARY), os.path.join(os.path.dirname(os.path.dirname(here)), "build", LIBRARY)]
     named = os.environ.get("SELQUMAR_LIBRARY")
-    place = named or next(filter(os.path.exists, places), None)
+    place = named or next((it for it in places if os.path.exists(it)), None)
     if place is None:
         raise ImportError(f"selqumar: there is no {LIBRARY} in {here} or in ../../build: `tools/library build` builds it, or the variable SELQUMAR_LIBRARY names one")
     try:
@@ -104,6 +119,8 @@ def _loaded() -> ctypes.CDLL:
         for function, takes in _FUNCTIONS.items():
             getattr(library, function).argtypes = takes
             getattr(library, function).restype = _GIVES.get(function, ctypes.c_uint32)
+        if library.selqumar_version() != _VERSION:
+            raise OSError(f"its version is {library.selqumar_version()} and not {_VERSION}")
     except (OSError, AttributeError) as fault:
         raise ImportError(f"selqumar: {place} is no library of this version ({fault}): `tools/library build` builds one") from fault
     return library
@@ -112,8 +129,9 @@ def _loaded() -> ctypes.CDLL:
 _LIBRARY = _loaded()
 
 
-# What lets go of a capsule's stream, as an address.
+# What lets go of a capsule's stream, and the name of such a capsule, as addresses. A capsule keeps the second, so that it lies in the library.
 END_OF_CAPSULE = ctypes.cast(_LIBRARY.selqumar_arrow_end_capsule, ctypes.c_void_p)
+NAME_OF_CAPSULE = ctypes.addressof(ctypes.c_char.in_dll(_LIBRARY, "selqumar_arrow_stream_name"))
 
 
 def close(name: str, handle: Handle) -> None:
@@ -125,22 +143,24 @@ def new_stream() -> int:
     place = _LIBRARY.selqumar_arrow_room()
     if not place:
         raise _no_memory()
-    return place
+    return int(place)
+
+
+def is_taken(stream: int, taken: Any) -> bool:
+    """Moves a stream, of which only one of several threads gets hold. Whether it was there."""
+    return bool(_LIBRARY.selqumar_arrow_take(stream, taken))
 
 
 def _no_memory() -> MemoryError:
     return MemoryError("selqumar: a request for memory was refused")
 
 
-def _closed() -> ValueError:
-    return ValueError("selqumar: the table is closed")
-
-
 class Rooms:
-    """How long a buffer each function is given at first."""
+    """How long a buffer each function is given at first, and why nothing may be open."""
 
     def __init__(self) -> None:
         self.needed: dict[str, int] = {}
+        self.closed = "selqumar: the table is closed"
 
     def text(self, name: str, *front: Any, least: int = ROOM) -> str:
         """The text that a function of the library gives. It is called again where the buffer was too short, which none is that changes a table."""
@@ -149,23 +169,23 @@ class Rooms:
         while True:
             out = ctypes.create_string_buffer(room)
             status = getattr(_LIBRARY, name)(*front, out, room, ctypes.byref(needed))
-            if status == NO_MEMORY:
-                raise _no_memory()
-            if status == NOT_OPEN:
-                raise _closed()
+            self._check(status)
             if status != SHORT:
                 break
             room = needed.value
         self.needed[name] = needed.value
-        text = ctypes.string_at(out, needed.value).decode()
+        # `ctypes.string_at` takes no more than 2^31 bytes.
+        text = str(memoryview(out)[:needed.value], "utf-8")
         if status == FAULT:
             raise Fault(text.rstrip("\n"))
         return text
 
     def done(self, name: str, *words: Any) -> None:
         """Calls a function that gives no text."""
-        status = getattr(_LIBRARY, name)(*words)
+        self._check(getattr(_LIBRARY, name)(*words))
+
+    def _check(self, status: int) -> None:
         if status == NO_MEMORY:
             raise _no_memory()
         if status == NOT_OPEN:
-            raise _closed()
+            raise ValueError(self.closed)

@@ -16,12 +16,17 @@ class _Buffer(ctypes.Structure):
                 ("suboffsets", ctypes.c_void_p), ("internal", ctypes.c_void_p)]
 
 
+# Prototypes of the module's own: whatever others set on `ctypes.pythonapi` holds for the whole process.
+_get_buffer = ctypes.PYFUNCTYPE(ctypes.c_int, ctypes.py_object, ctypes.c_void_p, ctypes.c_int)(("PyObject_GetBuffer", ctypes.pythonapi))
+_release_buffer = ctypes.PYFUNCTYPE(None, ctypes.c_void_p)(("PyBuffer_Release", ctypes.pythonapi))
+
+
 @contextmanager
 def held(data: Any) -> Iterator[Bytes]:
     """The bytes of an object where they lie. Until the end of the `with` nobody resizes or closes it."""
     buffer = _Buffer()
-    ctypes.pythonapi.PyObject_GetBuffer(ctypes.py_object(data), ctypes.byref(buffer), 0)
+    _get_buffer(data, ctypes.byref(buffer), 0)
     try:
         yield Bytes(buffer.buf or ctypes.addressof(buffer), buffer.len)
     finally:
-        ctypes.pythonapi.PyBuffer_Release(ctypes.byref(buffer))
+        _release_buffer(ctypes.byref(buffer))
