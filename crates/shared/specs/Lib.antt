@@ -14,6 +14,5 @@ pub mod Hand
 pub mod Missing
 pub mod Balance
 pub mod Gathered
-pub mod Joined
 pub mod Opened
 pub mod Prelude

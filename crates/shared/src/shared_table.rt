@@ -9,7 +9,6 @@ ghost use Rattle.shared.specs.Balance.{IsOfWorkers};
 ghost use Rattle.shared.specs.Gathered.{Stands};
 ghost use Rattle.shared.specs.Hand.{HasAdded, HasSeen, HasWidened, HasAddedNothing, IsRaised, HasAllItsPairs, calls_of_hand, columns_of_hand, rows_of_hand};
 ghost use Rattle.shared.specs.Known.{IsLegalKnown, known_of};
-ghost use Rattle.shared.specs.Joined.{AreBatchGroups};
 ghost use Rattle.shared.specs.Missing.{AllThere};
 
 use crate::fault::{GatherCause, GatherFault};
@@ -143,7 +142,6 @@ impl<N: Naming, P: Publish<Item = Shown<N>>> SharedTable<N, P> {
         ensures seen { HasSeen worker.old worker.new }
         ensures all { IfOk result (λ v. known_of (arc_value v) ≡ worker.new.seen) }
         ensures known { IfOk result (λ v. IsOfWorkers self.now (arc_value v).history) }
-        ensures joined { IfOk result (λ v. AreBatchGroups (arc_value v).fields max_rows (arc_value v).batches) }
         ensures apart { IfOk result (λ v. AreApart (arc_value v).fields max_rows (arc_value v).batches) }
     {
         self.lock.lock(wait).compact(wait, worker, max_rows)

@@ -1,7 +1,7 @@
 use Rattle.std.proofs.Common.{◌∙◌, List, ap, subst, sym}
 use Rattle.std.specs.Arc.{arc_value}
 use Rattle.arrays.specs.Prelude.{FieldShape}
-use Rattle.table.specs.Prelude.{AreApart, AreGroups, Contents, History}
+use Rattle.table.specs.Prelude.{AreApart, Contents, History}
 use Rattle.table.proofs.GroupLemmas.{groups-apart}
 use Rattle.shared.proofs.SeenLemmas.{known_joined, ok_with, seen_kept}
 use Rattle.shared.specs.Prelude.{IsOfWorkers, known_of}
@@ -24,19 +24,6 @@ returns-clause-known g c =
     (λ v joined is.
     subst (λ n. IsOfWorkers n (arc_value v).history) count
     (subst (λ (h : History). IsOfWorkers g.N.Naming-1.workers h) (sym (ap (λ (s : Contents). s.history) is ∙ joined.history)) c.compact.ensures.known))
-    c.compact.ensures.compacted
-    c.compact.ensures.version
-
-pub returns-clause-joined : goal.returns-clause-joined
-returns-clause-joined g c =
-    let old = c.deref_mut.result.now in
-    let max = c.args.max_rows in
-    ok_with c.compact.result
-    (λ v joined is. (
-      old.batches,
-      subst (λ (s : Contents). AreGroups s.fields max old.batches s.batches) (sym is)
-          (subst (λ (fs : List FieldShape). AreGroups fs max old.batches c.compact.new.self.batches) (sym joined.fields) joined.groups),
-    ))
     c.compact.ensures.compacted
     c.compact.ensures.version
 
