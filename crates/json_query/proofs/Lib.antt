@@ -1,3 +1,4 @@
 -- What the proofs of this crate share.
 mod Readings
 mod QueryReadings
+mod QueryDataLemmas

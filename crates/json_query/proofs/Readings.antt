@@ -1,6 +1,6 @@
 -- Why a fault of a reading stands, and what is read of one item more.
 use Rattle.std.proofs.Common.{◌≡◌, ◌⊎◌, inl, inr, ◌∙◌, ℕ, ◌+◌, ◌<◌, List, [], ◌∷◌, ◌++◌, map, length, get_or, drop, Option, None, Ok, Err, Contains, refl, sym, ap, subst, arith}
-use Rattle.std.proofs.lemmas.List.{at_drop_more, get_or-map, length-map, map-append}
+use Rattle.std.proofs.lemmas.List.{append-nil, append_assoc, at_drop_more, get_or-map, length-map, map-append}
 use Rattle.std.proofs.lemmas.List.Elements.{Contains-append_left, Contains-append_right}
 use Rattle.json_base.specs.Prelude.{Data, IsFault, IsUnder, Items, MemberFault, Missing, Tells, Unlike, Value, absent, as_object, fault_at, item, items_view, member_of, missing, no_items, no_memory, unlike, view, wrong}
 use Rattle.json_base.specs.FaultAt.{stands, wants}
@@ -12,7 +12,7 @@ use Rattle.json_base.specs.declared.fault.JsonFaultKind.{JsonFaultKind}
 use Rattle.json_base.specs.declared.fault.JsonFaultKind.TheVariants.{MissingMember, WrongMember}
 use Rattle.json_base.proofs.Views.{items_len-items_view}
 use Rattle.json_base.proofs.JsonTells.{tells_at, tells_as, tells_under, tells_wants}
-use Rattle.json_query.specs.Reading.{JsonReading, faults_of, MayReport, chain, both, under, required, each_after}
+use Rattle.json_query.specs.Reading.{JsonReading, faults_of, MayReport, chain, both, under, required, each_from, each_item}
 
 -- ---- which faults stand
 
@@ -77,6 +77,34 @@ required_told m what d f t = tells_as (MemberFault m (Unlike what) d) (MayReport
 
 -- ---- items
 
+-- as a loop reads them: the items from the n-th on, after what is read of those before
+abbrev pub each_after : {A : Type 0} → JsonReading (List A) → ℕ → (Data → JsonReading A) → Items → JsonReading (List A)
+each_after done n r no_items = done
+each_after done n r (item d ds) = each_after (both (λ xs x. xs ++ x ∷ []) done (under (step.Item n) (r d))) (n + 1) r ds
+
+both_nothing : {A : Type 0} (r : JsonReading (List A)) → r ≡ both (λ xs ys. xs ++ ys) r (Ok [])
+both_nothing (Ok xs) = ap Ok (sym (append-nil xs))
+both_nothing (Err faults) = ap Err (sym (append-nil faults))
+
+both_first : {A : Type 0} (r : JsonReading (List A)) → both (λ xs ys. xs ++ ys) (Ok []) r ≡ r
+both_first (Ok xs) = refl
+both_first (Err faults) = refl
+
+both_in_turn : {A : Type 0} (r : JsonReading (List A)) (s : JsonReading A) (t : JsonReading (List A))
+    → both (λ xs ys. xs ++ ys) (both (λ xs x. xs ++ x ∷ []) r s) t ≡ both (λ xs ys. xs ++ ys) r (both (λ x xs. x ∷ xs) s t)
+both_in_turn (Ok xs) (Ok x) (Ok ys) = ap Ok (append_assoc xs (x ∷ []) ys)
+both_in_turn (Ok xs) (Ok x) (Err faults) = refl
+both_in_turn (Ok xs) (Err faults) t = refl
+both_in_turn (Err faults) s t = ap Err (append_assoc faults (faults_of s) (faults_of t) ∙ ap (λ l. faults ++ l) (faults_both (λ x xs. x ∷ xs) s t))
+
+after_from : {A : Type 0} (done : JsonReading (List A)) (n : ℕ) (r : Data → JsonReading A) (ds : Items) → each_after done n r ds ≡ both (λ xs ys. xs ++ ys) done (each_from n r ds)
+after_from done n r no_items = both_nothing done
+after_from done n r (item d ds) = after_from (both (λ xs x. xs ++ x ∷ []) done (under (step.Item n) (r d))) (n + 1) r ds ∙ both_in_turn done (under (step.Item n) (r d)) (each_from (n + 1) r ds)
+
+-- a loop that has read nothing yet
+pub each_begun : {A : Type 0} (r : Data → JsonReading A) (ds : Items) → each_item r ds ≡ each_after (Ok []) 0 r ds
+each_begun r ds = sym (after_from (Ok []) 0 r ds ∙ both_first (each_from 0 r ds))
+
 next_item : {A : Type 0} (r : Data → JsonReading A) (done : JsonReading (List A)) (vs : List Value) (i : ℕ) (v : Value) → i < length vs → v ≡ get_or vs i v
     → each_after done i r (items_view (drop i vs)) ≡ each_after (both (λ xs x. xs ++ x ∷ []) done (under (step.Item i) (r (view v)))) (i + 1) r (items_view (drop (i + 1) vs))
 next_item r done vs i v within is =
@@ -105,4 +133,4 @@ each_told r whole done vs i v f g so_far t within is up =
 
 pub ruleset reading = (chain_first, chain_next, both_left, both_right, under_told, first_told, unlike_is, missing_is, required_told, tells_wants)
 
-pub ruleset loops = (first_told, items_len-items_view, tells_wants)
+pub ruleset loops = (each_begun, first_told, items_len-items_view, tells_wants)

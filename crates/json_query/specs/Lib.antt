@@ -4,4 +4,5 @@ pub mod QueryForm
 pub mod QueryExpr
 pub mod QueryDocument
 pub mod QueryDocumentFault
+pub mod QueryData
 pub mod Prelude

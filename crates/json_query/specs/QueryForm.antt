@@ -40,11 +40,26 @@ literal_of d = option_or (integer_of int64 d) (integer_of uint64 d)
 
 -- ---- operators
 
+abbrev pub op_name : Op → List ℕ
+op_name op.Add = codes "add"
+op_name op.Sub = codes "sub"
+op_name op.Mul = codes "mul"
+op_name op.Eq = codes "eq"
+op_name op.Ne = codes "ne"
+op_name op.Lt = codes "lt"
+op_name op.Le = codes "le"
+op_name op.Gt = codes "gt"
+op_name op.Ge = codes "ge"
+op_name op.And = codes "and"
+op_name op.Or = codes "or"
+op_name op.Not = codes "not"
+op_name op.IsNull = codes "is_null"
+
 abbrev pub op_names : List (List ℕ × Op)
 op_names =
-    (codes "add", op.Add) ∷ (codes "sub", op.Sub) ∷ (codes "mul", op.Mul)
-    ∷ (codes "eq", op.Eq) ∷ (codes "ne", op.Ne) ∷ (codes "lt", op.Lt) ∷ (codes "le", op.Le) ∷ (codes "gt", op.Gt) ∷ (codes "ge", op.Ge)
-    ∷ (codes "and", op.And) ∷ (codes "or", op.Or) ∷ (codes "not", op.Not) ∷ (codes "is_null", op.IsNull) ∷ []
+    (op_name op.Add, op.Add) ∷ (op_name op.Sub, op.Sub) ∷ (op_name op.Mul, op.Mul) ∷ (op_name op.Eq, op.Eq) ∷ (op_name op.Ne, op.Ne)
+    ∷ (op_name op.Lt, op.Lt) ∷ (op_name op.Le, op.Le) ∷ (op_name op.Gt, op.Gt) ∷ (op_name op.Ge, op.Ge)
+    ∷ (op_name op.And, op.And) ∷ (op_name op.Or, op.Or) ∷ (op_name op.Not, op.Not) ∷ (op_name op.IsNull, op.IsNull) ∷ []
 
 abbrev pub op_named : List ℕ → Option Op
 op_named bytes = lookup (bytes_eq bytes) op_names

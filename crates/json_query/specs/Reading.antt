@@ -67,10 +67,10 @@ array_in m d = required m WrongMember as_array d
 abbrev pub items : {A : Type 0} → Member → JsonReading Items → (Items → JsonReading A) → JsonReading A
 items m found r = chain found (λ ds. under (step.Member m) (r ds))
 
--- The items from the n-th on, one by one, after what is read of those before.
-abbrev pub each_after : {A : Type 0} → JsonReading (List A) → ℕ → (Data → JsonReading A) → Items → JsonReading (List A)
-each_after done n r no_items = done
-each_after done n r (item d ds) = each_after (both (λ xs x. xs ++ x ∷ []) done (under (step.Item n) (r d))) (n + 1) r ds
+-- The items one by one, of which the first is the n-th.
+abbrev pub each_from : {A : Type 0} → ℕ → (Data → JsonReading A) → Items → JsonReading (List A)
+each_from n r no_items = Ok []
+each_from n r (item d ds) = both (λ x xs. x ∷ xs) (under (step.Item n) (r d)) (each_from (n + 1) r ds)
 
 abbrev pub each_item : {A : Type 0} → (Data → JsonReading A) → Items → JsonReading (List A)
-each_item r ds = each_after (Ok []) 0 r ds
+each_item r ds = each_from 0 r ds

@@ -1,18 +1,11 @@
 //! What holds of queries whatever program reads them.
-ghost use Rattle.std.specs.Prelude.{◌≡◌, ℕ, List};
+ghost use Rattle.std.specs.Prelude.{◌≡◌, List, Ok, ℕ};
 ghost use Rattle.query.specs.QueryShape.{QueryShape};
-ghost use Rattle.json_base.specs.declared.path.Step.{Step};
-ghost use Rattle.json_base.specs.declared.fault.JsonFaultKind.{JsonFaultKind};
-ghost use Rattle.json_query.specs.QueryDocument.{ReadsQueryText};
-ghost use Rattle.json_query.specs.QueryDocumentFault.{QueryBytesFault};
+ghost use Rattle.json_query.specs.QueryData.{IsWithinLimits, query_data};
+ghost use Rattle.json_query.specs.QueryDocument.{query_of};
 
-/// Where a fault stands, nothing is read.
-pub fn read_query_has_no_fault()
-    ensures { (bytes : List ℕ) (q : QueryShape (List ℕ)) (kind : JsonFaultKind) (path : List Step) →
-        ReadsQueryText bytes q → QueryBytesFault bytes kind path → ⊥ }
-{}
-
-/// The bytes decide what is read.
-pub fn bytes_decide_the_query()
-    ensures { (bytes : List ℕ) (q r : QueryShape (List ℕ)) → ReadsQueryText bytes q → ReadsQueryText bytes r → q ≡ r }
+/// Each query within the limits can be written, and what is written is read as the query.
+#[tactic(auto, using(crate::proofs::QueryDataLemmas::query_again))]
+pub fn each_query_is_read_as_itself()
+    ensures { (q : QueryShape (List ℕ)) → IsWithinLimits q → query_of (query_data q) ≡ Ok q }
 {}

@@ -1,7 +1,7 @@
 use Rattle.std.proofs.Common.{◌≡◌, ◌+◌, ◌*◌, ◌≤◌, ℕ, suc, drop, map, Ok}
 use Rattle.json_base.specs.Prelude.{depth, items_depth, items_view, view}
-use Rattle.json_query.specs.Reading.{each_after}
 use Rattle.json_query.specs.QueryExpr.{expr_within, named_tree, operands}
+use Rattle.json_query.proofs.Readings.{each_after}
 use Rattle.json_query.proofs.expr.+exprs.Given as goal
 
 -- the expressions so far are read

@@ -1,7 +1,8 @@
 use Rattle.std.proofs.Common.{◌≡◌, [], drop, length, map, Ok, string_bytes}
 use Rattle.json_base.specs.Prelude.{as_str, items_view}
 use Rattle.json_base.specs.declared.fault.JsonFaultKind.TheVariants.{WrongMember}
-use Rattle.json_query.specs.Prelude.{each_after, key_names, wanted}
+use Rattle.json_query.specs.Prelude.{key_names, wanted}
+use Rattle.json_query.proofs.Readings.{each_after}
 use Rattle.json_query.proofs.lists.read_names.Given as goal
 
 -- the names so far are read
