@@ -98,6 +98,9 @@ def fault_cases(selqumar, data, other):
         ("a batch", [data, other], ROWS, ("A1", None, 1, 0)),
         ("a query's member", [data], {"by": 3}, ("J3", "/by", None, None)),
         ("a query", [data], {"by": ["town"]}, ("Q1", None, None, None)),
+        ("a query's member before a file's", [b"{"], {"by": 3}, ("J3", "/by", None, None)),
+        ("a file before the query's names", [b"{"], {"by": ["town"]}, ("J1", None, 0, None)),
+        ("an earlier file", [data, b"[", b"{"], ROWS, ("J1", None, 1, None)),
     ]:
         try:
             selqumar.query(files, query)

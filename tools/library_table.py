@@ -377,6 +377,9 @@ def answer_cases(selqumar):
             total, greatest = table.query(aggs)[0]
             wanted = {"sum(u)": [total if total is None or total < 2 ** 63 else str(total)], "greatest(u)": [greatest]}
             yield f"a sum of {total}", difference(rows_of_stream(table.answer(aggs)), wanted)
+        with selqumar.Table({"n": "int32"}) as many:
+            many.append({"n": range(70000)})
+            yield "an answer of more groups than 16 bits count", difference(rows_of_stream(many.answer({"by": ["n"], "aggs": [{"agg": "rows"}]})), {"n": [*range(70000)], "rows": [1] * 70000})
         yield "an answer without a group", difference(rows_of_stream(table.answer({"filter": {"op": "lt", "args": [{"column": "u"}, {"int": 0}]}, "by": ["u"]})), {"u": []})
         yield "a query that is refused", difference((raised(table.answer, {"by": ["v"]}) or ("", ""))[1], "arrowtab: query: Q1 NoColumn")
     yield "an answer of what is closed", difference((raised(table.answer, aggs) or ("nothing",))[0], "ValueError")
@@ -436,6 +439,11 @@ def hostile_cases(selqumar):
                 yield f"{rows} rows of {count} nodes", "they were taken" if not found else "they left a trace"
         with columns.nodes(parts) as nodes:
             yield "nodes that don't lie", difference(outcome(library, table, 3, nodes, len(parts)), None)
+        # A dictionary lies in a list, and a column has more rows than the batch: the schema's fault is told.
+        inside = columns.parts_of_columns([("l", "list<int32>", [[0], [1], []]), ("t", "utf8", ["a", "b"]), ("n", "int32", [1, 2, 3, 4])])
+        with columns.nodes(inside) as nodes:
+            nodes[1].dictionary = 1
+            yield "a schema's fault before a batch's", difference(outcome(library, table, 3, nodes, len(inside)), "arrowtab: C2 DictInList column=0")
     yield "wrong nodes", None if tried >= 200 else f"only {tried}"
 
 
