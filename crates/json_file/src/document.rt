@@ -30,7 +30,7 @@ pub(crate) struct DocumentParts {
     pub places: HeadPlaces,
     /// Where `batches` stands.
     pub batches: Option<Stretch>,
-    /// The file by what stood before its batches, or by what was taken for what decides how they are read.
+    /// The file by what stood before its batches, or by what was taken for what decides how they are read; none where batches come again.
     pub file: Option<FileAt>,
 }
 
@@ -83,7 +83,7 @@ impl MemberVisitor for DocumentParts {
 
     fn visit(&mut self, text: &str, name: &str, at: usize, depth: usize) -> Result<usize, Miss> {
         let cursor = Cursor { text, at, depth };
-        if name == Member::Batches.name() {
+        if name == Member::Batches.name() && self.batches.is_none() {
             let batches = read_or_pass(self.alloc, self.places, cursor)?;
             let place = member_stretch(cursor, batches.end)?;
             self.batches = Some(place);
@@ -95,6 +95,10 @@ impl MemberVisitor for DocumentParts {
             self.places.schema = Some(place);
         } else if name == Member::Dictionaries.name() {
             self.places.dictionaries = Some(place);
+        } else if name == Member::Batches.name() {
+            // Each would be read with the schema and the dictionaries, which would take the square of their number.
+            self.batches = Some(place);
+            self.file = None;
         }
         Ok(place.end)
     }
