@@ -12,7 +12,7 @@ use Rattle.json_stream.specs.Columns.{AreReadColumns}
 
 pub no_columns : (fields : List FieldShape) (catalog : List (Option Coding)) (columns : List Seen) → columns ≡ [] → AreReadColumns fields catalog [] columns
 no_columns fields catalog columns none =
-    subst (λ cs. AreReadColumns fields catalog [] cs) (sym none) record { len = refl; within = omega arith; each = λ i f c d s field coding found got. absurd cc }
+    subst (λ cs. AreReadColumns fields catalog [] cs) (sym none) record { len = refl; within = omega arith; coded = omega arith; each = λ i f c d s field coding found got. absurd cc }
 
 -- the same columns by another name of the fields and of the catalog
 pub columns_known : (fields gs : List FieldShape) (catalog cs : List (Option Coding)) (ds : List Data) (columns : List Seen) → fields ≡ gs → catalog ≡ cs → AreReadColumns fields catalog ds columns → AreReadColumns gs cs ds columns
@@ -32,7 +32,8 @@ columns_more : (fields : List FieldShape) (catalog : List (Option Coding)) (ds :
     → slice_get fields (length ds) ≡ Some f → slice_get catalog (length ds) ≡ Some b → HoldsTop (kind_of_field f) b (length s.items) d s → AreReadColumns fields catalog (ds ++ d ∷ []) (columns ++ s ∷ [])
 columns_more fields catalog ds columns f b d s h at_field at_coding column = record {
   len = omega (arith, length-append columns (s ∷ []), length-append ds (d ∷ []), h.len);
-  within = omega (arith, length-append ds (d ∷ []), slice_get_within catalog (length ds) b at_coding);
+  within = omega (arith, length-append ds (d ∷ []), slice_get_within fields (length ds) f at_field);
+  coded = omega (arith, length-append ds (d ∷ []), slice_get_within catalog (length ds) b at_coding);
   each = λ i g c e t field coding found got.
       below_more
       (λ k. (g : FieldShape) (c : Option Coding) (e : Data) (t : Seen) → slice_get fields k ≡ Some g → slice_get catalog k ≡ Some c → slice_get (ds ++ d ∷ []) k ≡ Some e → slice_get (columns ++ s ∷ []) k ≡ Some t

@@ -61,7 +61,7 @@ lawful_batch fields catalog ds columns rows h len even small =
     let both = both_at columns fields i p at in
     let within : i < length ds = omega (arith, slice_get_within columns i p.0 both.0, h.len) in
     let d = slice_get_some ds i within in
-    let c = slice_get_some catalog i (omega (arith, within, h.within)) in
+    let c = slice_get_some catalog i (omega (arith, within, h.coded)) in
     ap (λ k. not (same_kind k (kind_of_field p.1))) (h.each i p.1 c.0 d.0 p.0 both.1 c.1 d.1 both.0).kind ∙ ap not (same_kind-refl (kind_of_field p.1))) in
     let lengths : differing_length rows columns ≡ None = position-none (λ s. not (length s.items == rows)) columns (λ i s at. ap not (eq-eqb (length s.items) rows (length_at columns rows i s even at))) in
     let count : (length columns == length fields) ≡ true = eq-eqb (length columns) (length fields) len in
