@@ -1,5 +1,5 @@
 -- Nodes over parts that are lent.
-use Rattle.std.proofs.Common.{◌≡◌, ◌∙◌, ◌<◌, ◌≤◌, ◌+◌, ◌++◌, ℕ, zero, suc, List, [], ◌∷◌, Option, Some, None, Bool, true, false, not, ap, append-nil, append_assoc, arith, get_or, inl, inr, length, map, option_map, nat_lt, refl, slice_get, slice_index_or, string_bytes, subst, sym, take}
+use Rattle.std.proofs.Common.{◌≡◌, ◌≢◌, ◌^◌, ◌-◌, ◌∙◌, ◌<◌, ◌≤◌, ◌+◌, ◌++◌, ℕ, zero, suc, List, [], ◌∷◌, Option, Some, None, Bool, true, false, not, ap, append-nil, append_assoc, arith, get_or, inl, inr, length, map, option_map, nat_lt, refl, slice_get, slice_index_or, string_bytes, subst, sym, take}
 use Rattle.std.proofs.lemmas.Bool.Decides.{nat_tests}
 use Rattle.std.proofs.lemmas.List.{length-map, take_all, take_more}
 use Rattle.std.proofs.lemmas.Option.{get_or_from_slice_get, slice_get-get_or, slice_get-map, slice_get_within}
@@ -9,7 +9,7 @@ use Rattle.std.specs.Prelude.{is_none, ◌==◌, ◌⊎◌}
 use Rattle.std.specs.declared.alloc.Global.{Global}
 use Rattle.std.specs.declared.boxed.Box.{Box}
 use Rattle.arrays.proofs.BatchLemmas.{kinds, whole}
-use Rattle.arrays.specs.Prelude.{Batch, Buffers, DataType, Dict, Field, FieldShape, Int, IntType, Kind, LargeList', LargeUtf8, List', Narrow, OffsetWidth, RawArray, Reading, Seen, Shape, Utf8, Wide, batch_fault, checked, checked_texts, child_fault, depth, dictionary_fault, do_parts_differ, field, field_of, field_step, fields_of, fold-Field, fold_out-DataType, fold_out-Field, inner_of, int32, is_no_child, is_nullable, kind_of, kind_of_field, kind_step, map-DataType, name_of, out-Field, out-RawArray, outs-Dict, outs-LargeList', outs-List', own_fault, read_checked, read_lent, read_parts, reading, shape_of, shape_step}
+use Rattle.arrays.specs.Prelude.{Batch, Buffers, DataType, Dict, Field, FieldShape, Int, IntType, Kind, LargeUtf8, Narrow, OffsetWidth, RawArray, Reading, Seen, Shape, Utf8, Wide, batch_fault, checked, checked_texts, child_fault, depth, dictionary_fault, do_parts_differ, field, field_of, field_step, fields_of, fold-Field, fold_out-DataType, fold_out-Field, inner_of, int32, is_no_child, is_nullable, kind_of, kind_of_field, kind_step, map-DataType, name_of, out-Field, out-RawArray, outs-Dict, outs-LargeList', outs-List', own_fault, read_checked, read_lent, read_parts, reading, shape_of, shape_step}
 use Rattle.arrays.specs.declared.lent.LentParts.{LentParts}
 use Rattle.arrays.proofs.ChildLemmas.{MakesArray-plain, OneChild, only_child}
 use Rattle.arrays.proofs.FirstFaultLemmas.{own_fault-none, reading-raw}
@@ -19,48 +19,59 @@ use Rattle.arrays.specs.Shape as shape
 use Rattle.arrays.specs.DataTypes as variant
 use Rattle.arrays.specs.DataTypeViews as types
 use Rattle.arrays.proofs.ShapeLemmas.{kind_of-Bool, kind_of-Int, kind_of-LargeUtf8, kind_of-Utf8, kind_of_field-field_of}
-use Rattle.flat.specs.Prelude.{ArePushed, Begins, IsNodeOver, IsOver, IsTextPushed, Lends, LendsColumn, LendsColumns, content_of, content_of_kind, field_named, is_dictionary, most_levels, shape_alone, stated}
+use Rattle.flat.specs.Prelude.{ArePushed, Begins, IsDictionary, IsLentDict, IsNodeOver, IsOver, IsTextPushed, Lends, LendsColumn, LendsColumns, content_of, content_of_kind, field_named, is_dictionary, most_levels, shape_alone, stated}
 use Rattle.flat.specs.declared.node.Node.{Node}
+
+-- where it isn't known how many nulls there are
+abbrev pub unknown : ℕ
+unknown = 2 ^ 64 - 1
 
 -- a node over buffers is one over what they are read as
 pub over_read : (name : List ℕ) (nullable : Bool) (j k : Kind) (length : ℕ) (buffers : Buffers) (n : Node) (children : List Reading) (dictionary : Option Reading)
-    → IsNodeOver name nullable j length buffers n → IsOver k n children dictionary (read_parts k length None buffers children dictionary)
+    → IsNodeOver name nullable j length unknown buffers n → IsOver k n children dictionary (read_parts k length None buffers children dictionary)
 over_read name nullable j k length buffers n children dictionary is = record {
   buffers = buffers;
-  is = ap (λ m. read_parts k m None buffers children dictionary) (sym is.long) ∙ ap (λ s. read_parts k n.length s buffers children dictionary) (sym is.count);
+  is = ap (λ m. read_parts k m None buffers children dictionary) (sym is.long) ∙ ap (λ s. read_parts k n.length s buffers children dictionary) (sym (ap stated is.count));
   validity = is.validity;
   first = is.first;
   second = is.second;
 }
 
--- the texts of a dictionary
-pub text_pushed : (name : List ℕ) (nullable : Bool) (n : Node) (texts : Seen) (p : LentParts) (old new : List Node) → IsNodeOver name nullable kind.utf8 p.length p.buffers.now n
+not_zero : (n : ℕ) → not (n == 0) ≡ true → n ≢ 0
+not_zero n some none = cc (sym (ap (λ (k : ℕ). not (k == 0)) none) ∙ some)
+
+-- the node of a dictionary's texts
+pub dictionary_over : (length nulls : ℕ) (buffers : Buffers) (n : Node) → IsNodeOver [] true kind.utf8 length nulls buffers n → IsDictionary n
+dictionary_over length nulls buffers n is = record { holds = is.holds; unnamed = is.named; nullable = not_zero n.nullable is.nulls }
+
+-- its texts
+pub text_pushed : (n : Node) (texts : Seen) (p : LentParts) (old new : List Node) → IsNodeOver [] true kind.utf8 p.length unknown p.buffers.now n
     → (read_lent kind.utf8 p).fault ≡ None → (read_lent kind.utf8 p).seen ≡ texts → new ≡ old ++ n ∷ [] → IsTextPushed texts old new
-text_pushed name nullable n texts p old new is lawful shows pushed =
+text_pushed n texts p old new is lawful shows pushed =
     let children = map reading p.children.now in
     let dictionary = option_map checked_texts (option_map (λ w. arc_value w.now) p.words) in
     let alone = text_alone Narrow p.length None p.buffers.now children dictionary lawful in
     record {
       own = n;
       is = pushed;
-      holds = is.holds;
+      dictionary = dictionary_over p.length unknown p.buffers.now n is;
       parts = read_lent kind.utf8 p;
       lawful = lawful;
       shows = shows;
       over = subst (λ (cs : List Reading). IsOver kind.utf8 n cs None (read_lent kind.utf8 p)) alone.0
           (subst (λ (d : Option Reading). IsOver kind.utf8 n children d (read_lent kind.utf8 p)) alone.1
-          (over_read name nullable kind.utf8 kind.utf8 p.length p.buffers.now n children dictionary is));
+          (over_read [] true kind.utf8 kind.utf8 p.length p.buffers.now n children dictionary is));
     }
 
 -- ---- fields
 
 -- The node of a field, over these buffers.
-abbrev pub IsHeadOf : FieldShape → ℕ → Buffers → Node → Type 0
-IsHeadOf f length buffers n = IsNodeOver (name_of f) (is_nullable f) (kind_of_field f) length buffers n
+abbrev pub IsHeadOf : FieldShape → ℕ → ℕ → Buffers → Node → Type 0
+IsHeadOf f length nulls buffers n = IsNodeOver (name_of f) (is_nullable f) (kind_of_field f) length nulls buffers n
 
 -- The same over those of parts.
 abbrev pub IsNodeOf : FieldShape → LentParts → Node → Type 0
-IsNodeOf f p n = IsHeadOf f p.length p.buffers.now n
+IsNodeOf f p n = IsHeadOf f p.length unknown p.buffers.now n
 
 named_so : (name : List ℕ) (nullable : Bool) (ty : Shape) (n : Node) → n.name.now ≡ name → not (n.nullable == 0) ≡ nullable → field name nullable ty ≡ field_named n ty
 named_so name nullable ty n named nulls = ap (λ m. field m nullable ty) (sym named) ∙ ap (λ b. field n.name.now b ty) (sym nulls)
@@ -100,29 +111,29 @@ lends_alone (kind.texts w) n rest r alone over = over
 lends_alone (kind.lists w k) n rest r alone over = cc
 lends_alone kind.dict n rest r alone over = cc
 
-pub alone_begins : (f : FieldShape) (length : ℕ) (buffers : Buffers) (n : Node) → IsHeadOf f length buffers n → is_alone (kind_of_field f) ≡ true → (levels : ℕ) → depth (kind_of_field f) < levels
+pub alone_begins : (f : FieldShape) (length nulls : ℕ) (buffers : Buffers) (n : Node) → IsHeadOf f length nulls buffers n → is_alone (kind_of_field f) ≡ true → (levels : ℕ) → depth (kind_of_field f) < levels
     → (rest : List Node) → Begins levels (n ∷ rest) f rest
-alone_begins f length buffers n is alone zero below rest = absurd (not_below (kind_of_field f) below)
-alone_begins (field name nullable (shape.int t)) length buffers n is alone (suc l) below rest =
+alone_begins f length nulls buffers n is alone zero below rest = absurd (not_below (kind_of_field f) below)
+alone_begins (field name nullable (shape.int t)) length nulls buffers n is alone (suc l) below rest =
     inl (record { ty = shape.int t; holds = ap (option_and_then shape_alone) is.holds; field = named_so name nullable (shape.int t) n is.named is.nulls; next = refl })
-alone_begins (field name nullable shape.boolean) length buffers n is alone (suc l) below rest =
+alone_begins (field name nullable shape.boolean) length nulls buffers n is alone (suc l) below rest =
     inl (record { ty = shape.boolean; holds = ap (option_and_then shape_alone) is.holds; field = named_so name nullable shape.boolean n is.named is.nulls; next = refl })
-alone_begins (field name nullable (shape.texts w)) length buffers n is alone (suc l) below rest =
+alone_begins (field name nullable (shape.texts w)) length nulls buffers n is alone (suc l) below rest =
     inl (record { ty = shape.texts w; holds = ap (option_and_then shape_alone) is.holds; field = named_so name nullable (shape.texts w) n is.named is.nulls; next = refl })
-alone_begins (field name nullable (shape.lists w item)) length buffers n is alone (suc l) below rest = cc
-alone_begins (field name nullable shape.dict) length buffers n is alone (suc l) below rest = cc
+alone_begins (field name nullable (shape.lists w item)) length nulls buffers n is alone (suc l) below rest = cc
+alone_begins (field name nullable shape.dict) length nulls buffers n is alone (suc l) below rest = cc
 
-pub codes_begin : (name : List ℕ) (nullable : Bool) (length : ℕ) (buffers : Buffers) (n d : Node) → IsHeadOf (field name nullable shape.dict) length buffers n → content_of d ≡ Some (content_of_kind kind.utf8)
+pub codes_begin : (name : List ℕ) (nullable : Bool) (length nulls : ℕ) (buffers : Buffers) (n d : Node) → IsHeadOf (field name nullable shape.dict) length nulls buffers n → content_of d ≡ Some (content_of_kind kind.utf8)
     → (levels : ℕ) → 0 < levels → (rest : List Node) → Begins levels (n ∷ d ∷ rest) (field name nullable shape.dict) rest
-codes_begin name nullable length buffers n d is texts zero below rest = absurd (not_below kind.dict below)
-codes_begin name nullable length buffers n d is texts (suc l) below rest =
+codes_begin name nullable length nulls buffers n d is texts zero below rest = absurd (not_below kind.dict below)
+codes_begin name nullable length nulls buffers n d is texts (suc l) below rest =
     inr (inl (record { indices = int32; holds = is.holds; dictionary = d; texts = ap is_dictionary texts; field = named_so name nullable shape.dict n is.named is.nulls; next = refl }))
 
-pub lists_begin : (name : List ℕ) (nullable : Bool) (w : OffsetWidth) (item : FieldShape) (length : ℕ) (buffers : Buffers) (n : Node) (own : List Node)
-    → IsHeadOf (field name nullable (shape.lists w item)) length buffers n → ((levels : ℕ) → depth (kind_of_field item) < levels → (rest : List Node) → Begins levels (own ++ rest) item rest)
+pub lists_begin : (name : List ℕ) (nullable : Bool) (w : OffsetWidth) (item : FieldShape) (length nulls : ℕ) (buffers : Buffers) (n : Node) (own : List Node)
+    → IsHeadOf (field name nullable (shape.lists w item)) length nulls buffers n → ((levels : ℕ) → depth (kind_of_field item) < levels → (rest : List Node) → Begins levels (own ++ rest) item rest)
     → (levels : ℕ) → suc (depth (kind_of_field item)) < levels → (rest : List Node) → Begins levels (n ∷ own ++ rest) (field name nullable (shape.lists w item)) rest
-lists_begin name nullable w item length buffers n own is begins zero below rest = absurd (not_below (kind.lists w (kind_of_field item)) below)
-lists_begin name nullable w item length buffers n own is begins (suc l) below rest =
+lists_begin name nullable w item length nulls buffers n own is begins zero below rest = absurd (not_below (kind.lists w (kind_of_field item)) below)
+lists_begin name nullable w item length nulls buffers n own is begins (suc l) below rest =
     inr (inr (item, begins l (omega (arith, below)) rest, record { width = w; holds = is.holds; field = named_so name nullable (shape.lists w item) n is.named is.nulls }))
 
 -- a column of one node
@@ -131,7 +142,7 @@ pub pushed_alone : (f : FieldShape) (p : LentParts) (n : Node) (old new : List N
 pushed_alone f p n old new is alone lawful pushed = record {
   own = n ∷ [];
   is = pushed;
-  begins = alone_begins f p.length p.buffers.now n is alone;
+  begins = alone_begins f p.length unknown p.buffers.now n is alone;
   lends = λ rest. lends_alone (kind_of_field f) n rest (read_lent (kind_of_field f) p) alone (over_alone f p n is alone lawful);
 }
 
@@ -139,6 +150,10 @@ pushed_alone f p n old new is alone lawful pushed = record {
 
 both_none : (children : List Reading) (dictionary : Option Reading) → do_parts_differ kind.dict (map inner_of children) (option_map inner_of dictionary) ≡ false → children ≡ []
 both_none children dictionary h = none_present children (either_false _ _ h).0
+
+-- indices and their texts
+pub lent_dict : (n d : Node) → content_of n ≡ Some (content_of_kind kind.dict) → IsDictionary d → IsLentDict n d
+lent_dict n d holds is = record { indices = holds; unnamed = is.unnamed; nullable = is.nullable }
 
 -- codes with the texts behind them
 pub pushed_coded : (f : FieldShape) (p : LentParts) (words : Seen) (n : Node) (old mid new : List Node) → IsNodeOf f p n → kind_of_field f ≡ kind.dict → (read_lent (kind_of_field f) p).fault ≡ None
@@ -157,8 +172,9 @@ pushed_coded (field name nullable shape.dict) p words n old mid new is coded law
     record {
       own = n ∷ d ∷ [];
       is = texts.is ∙ ap (λ l. l ++ d ∷ []) pushed ∙ append_assoc old (n ∷ []) (d ∷ []);
-      begins = codes_begin name nullable p.length p.buffers.now n d is texts.holds;
+      begins = codes_begin name nullable p.length unknown p.buffers.now n d is texts.dictionary.holds;
       lends = λ rest. (
+        lent_dict n d is.holds texts.dictionary,
         texts.parts,
         texts.lawful,
         texts.over,
@@ -221,7 +237,7 @@ pushed_listed (field name nullable ty) w item p raw n inner old mid new is liste
         record {
           own = n ∷ items.own;
           is = items.is ∙ ap (λ l. l ++ items.own) pushed ∙ append_assoc old (n ∷ []) items.own;
-          begins = lists_begin name nullable w item p.length p.buffers.now n items.own is items.begins;
+          begins = lists_begin name nullable w item p.length unknown p.buffers.now n items.own is items.begins;
           lends = λ rest. (
             inner,
             items.lends rest,
@@ -246,12 +262,12 @@ one_child w item f p d listed lawful =
 pub field_at : (f : Field) → field_of f ≡ field (string_bytes (out-Field f).name) (out-Field f).nullable (shape_of (out-Field f).ty)
 field_at f = fold_out-Field Shape FieldShape shape_step field_step f
 
-pub node_of_field : (f : Field) (name : List ℕ) (length : ℕ) (buffers : Buffers) (n : Node) → name ≡ string_bytes (out-Field f).name
-    → IsNodeOver name (out-Field f).nullable (kind_of (out-Field f).ty) length buffers n → IsNodeOver (name_of (field_of f)) (is_nullable (field_of f)) (kind_of_field (field_of f)) length buffers n
-node_of_field f name length buffers n named is =
-    subst (λ (k : Kind). IsNodeOver (name_of (field_of f)) (is_nullable (field_of f)) k length buffers n) (sym (kind_of_field-field_of f))
-    (subst (λ (b : Bool). IsNodeOver (name_of (field_of f)) b (kind_of (out-Field f).ty) length buffers n) (sym (ap is_nullable (field_at f)))
-    (subst (λ (m : List ℕ). IsNodeOver m (out-Field f).nullable (kind_of (out-Field f).ty) length buffers n) (named ∙ sym (ap name_of (field_at f))) is))
+pub node_of_field : (f : Field) (name : List ℕ) (length nulls : ℕ) (buffers : Buffers) (n : Node) → name ≡ string_bytes (out-Field f).name
+    → IsNodeOver name (out-Field f).nullable (kind_of (out-Field f).ty) length nulls buffers n → IsHeadOf (field_of f) length nulls buffers n
+node_of_field f name length nulls buffers n named is =
+    subst (λ (k : Kind). IsNodeOver (name_of (field_of f)) (is_nullable (field_of f)) k length nulls buffers n) (sym (kind_of_field-field_of f))
+    (subst (λ (b : Bool). IsNodeOver (name_of (field_of f)) b (kind_of (out-Field f).ty) length nulls buffers n) (sym (ap is_nullable (field_at f)))
+    (subst (λ (m : List ℕ). IsNodeOver m (out-Field f).nullable (kind_of (out-Field f).ty) length nulls buffers n) (named ∙ sym (ap name_of (field_at f))) is))
 
 by_shape : (f : Field) (s : Shape) → shape_of (out-Field f).ty ≡ s → field_of f ≡ field (name_of (field_of f)) (is_nullable (field_of f)) s
 by_shape f s is =

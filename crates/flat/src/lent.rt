@@ -1,12 +1,12 @@
 //! The nodes of a batch, over the buffers of its arrays.
 
-ghost use Rattle.std.specs.Prelude.{◌≡◌, ◌<◌, IfOk, None, OnOk, Some, [], slice_get};
+ghost use Rattle.std.specs.Prelude.{◌≡◌, ◌<◌, IfOk, None, OnOk, Some, [], slice_get, true};
 ghost use Rattle.std.specs.Arc.{arc_value};
 ghost use Rattle.arrays.specs.Prelude.{Kind, bytes_at, field_of, is_nullable, kind_of, kind_of_field, name_of, out-RawArray, read_checked, read_lent};
 ghost use Rattle.flat.specs.Content.{child_count};
 ghost use Rattle.flat.specs.Format.{format_content};
 ghost use Rattle.flat.specs.Lent.{ArePushed, IsNodeOver, IsTextPushed, LendsColumns, content_of_kind, dictionary_of_kind, format_of_kind};
-ghost use Rattle.arrays.specs.Kind.{int};
+ghost use Rattle.arrays.specs.Kind.{int, utf8};
 
 use crate::node::Node;
 use arrays::{
@@ -15,8 +15,8 @@ use arrays::{
 };
 use std::alloc::Global;
 
-/// The columns of a batch as nodes, one after the other, over the very buffers of its arrays: nothing is copied. That of a
-/// dictionary has no name.
+/// The columns of a batch as nodes, one after the other, over the very buffers of its arrays: nothing is copied. Indices of a
+/// dictionary have 32 bits, its texts no name.
 pub fn nodes_of(alloc: Global, batch: &RecordBatch) -> Result<Vec<Node<'_>>, NoMemory>
     ensures { IfOk result (λ v. LendsColumns v.items batch.now.fields batch.now.columns []) }
 {
@@ -44,7 +44,7 @@ fn push_column<'a>(
         children,
         words,
     } = parts;
-    nodes.push(node_of(field, length, buffers))?;
+    nodes.push(node_of(field, length, u64::MAX, buffers))?;
     match &field.ty {
         DataType::List(item) | DataType::LargeList(item) => match children.first() {
             Some(child) => push_column(nodes, item, parts_of(child)),
@@ -75,26 +75,46 @@ fn push_words<'a>(nodes: &mut Vec<Node<'a>>, words: &'a Words) -> Result<(), NoM
     ensures { OnOk result (IsTextPushed words.now nodes.old.items nodes.new.items) }
 {
     let parts = words.parts();
-    nodes.push(node_over("", true, &DataType::Utf8, parts.length, parts.buffers))?;
+    nodes.push(words_over(parts.length, u64::MAX, parts.buffers))?;
     Ok(())
 }
 
-/// The node of a field over these buffers.
-pub(crate) fn node_of<'a>(field: &'a Field, length: u64, buffers: &'a [Option<Buffer>]) -> Node<'a>
-    ensures { IsNodeOver (name_of (field_of field.now)) (is_nullable (field_of field.now)) (kind_of_field (field_of field.now)) length buffers.now result }
+/// The node of a dictionary's texts over these buffers.
+pub(crate) fn words_over(length: u64, null_count: u64, buffers: &[Option<Buffer>]) -> Node<'_>
+    ensures { IsNodeOver [] true utf8 length null_count buffers.now result }
 {
-    node_over(&field.name, field.nullable, &field.ty, length, buffers)
+    node_over("", true, &DataType::Utf8, length, null_count, buffers)
+}
+
+/// The node of a field over these buffers.
+pub(crate) fn node_of<'a>(
+    field: &'a Field,
+    length: u64,
+    null_count: u64,
+    buffers: &'a [Option<Buffer>],
+) -> Node<'a>
+    ensures { IsNodeOver (name_of (field_of field.now)) (is_nullable (field_of field.now)) (kind_of_field (field_of field.now)) length null_count buffers.now result }
+{
+    node_over(
+        &field.name,
+        field.nullable,
+        &field.ty,
+        length,
+        null_count,
+        buffers,
+    )
 }
 
 /// The node of a name and a type over these buffers.
-pub(crate) fn node_over<'a>(
+fn node_over<'a>(
     name: &'a str,
     nullable: bool,
     ty: &DataType,
     length: u64,
+    null_count: u64,
     buffers: &'a [Option<Buffer>],
 ) -> Node<'a>
-    ensures { IsNodeOver name.now nullable (kind_of ty.now) length buffers.now result }
+    ensures { IsNodeOver name.now nullable (kind_of ty.now) length null_count buffers.now result }
 {
     Node {
         format: format_of(ty),
@@ -103,7 +123,7 @@ pub(crate) fn node_over<'a>(
         dictionary: dictionary_of(ty),
         children: children_of(ty),
         length,
-        null_count: u64::MAX,
+        null_count,
         validity: bytes_at(buffers, 0),
         first: bytes_at(buffers, 1),
         second: bytes_at(buffers, 2),

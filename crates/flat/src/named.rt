@@ -1,19 +1,19 @@
 //! The nodes of a schema, without rows.
 
 ghost use Rattle.std.specs.Prelude.{IfOk, OnOk, []};
+ghost use Rattle.flat.specs.Lent.{LendsFields};
 ghost use Rattle.flat.specs.Named.{AreNamed, AreTextsNamed};
-ghost use Rattle.flat.specs.Schema.{Names};
 ghost use Rattle.arrays.specs.Prelude.{field_of};
 
-use crate::lent::{node_of, node_over};
+use crate::lent::{node_of, words_over};
 use crate::node::Node;
 use arrays::{DataType, Field, NoMemory, Schema};
 use std::alloc::Global;
 
-/// The columns of a schema as nodes without buffers, one after the other, whose lengths are 0. What they name is the schema
-/// ([`schema_of`](crate::schema_of)); that of a dictionary has no name.
+/// The columns of a schema as nodes, one after the other, as those of its batches are lent ([`nodes_of`](crate::nodes_of)), but without
+/// rows. What they name is the schema ([`schema_of`](crate::schema_of)).
 pub fn fields_of(alloc: Global, schema: &Schema) -> Result<Vec<Node<'_>>, NoMemory>
-    ensures { IfOk result (λ v. Names v.items schema.now []) }
+    ensures { IfOk result (λ v. LendsFields v.items schema.now []) }
 {
     let mut nodes = Vec::new(alloc);
     let fields = schema.fields();
@@ -27,7 +27,7 @@ pub fn fields_of(alloc: Global, schema: &Schema) -> Result<Vec<Node<'_>>, NoMemo
 fn push_field<'a>(nodes: &mut Vec<Node<'a>>, field: &'a Field) -> Result<(), NoMemory>
     ensures { OnOk result (AreNamed (field_of field.now) nodes.old.items nodes.new.items) }
 {
-    nodes.push(node_of(field, 0, &[]))?;
+    nodes.push(node_of(field, 0, 0, &[]))?;
     match &field.ty {
         DataType::List(item) | DataType::LargeList(item) => push_field(nodes, item),
         DataType::Dict => push_texts(nodes),
@@ -39,6 +39,6 @@ fn push_field<'a>(nodes: &mut Vec<Node<'a>>, field: &'a Field) -> Result<(), NoM
 fn push_texts(nodes: &mut Vec<Node<'_>>) -> Result<(), NoMemory>
     ensures { OnOk result (AreTextsNamed nodes.old.items nodes.new.items) }
 {
-    nodes.push(node_over("", true, &DataType::Utf8, 0, &[]))?;
+    nodes.push(words_over(0, 0, &[]))?;
     Ok(())
 }

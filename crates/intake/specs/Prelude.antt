@@ -1,4 +1,3 @@
 -- The words of intake that contracts and proofs name most.
-pub use Rattle.flat.specs.Lent.{LendsColumns}
+pub use Rattle.flat.specs.Lent.{LendsColumns, LendsFields}
 pub use Rattle.flat.specs.declared.node.Node.{Node}
-pub use Rattle.flat.specs.Schema.{Names}

@@ -1,6 +1,6 @@
 //! The columns of a snapshot, lent.
 ghost use Rattle.std.specs.Prelude.{◌≡◌, ◌≢◌, ◌≤◌, ◌⊎◌, [], IfErr, IfOk, length};
-ghost use Rattle.intake.specs.Prelude.{Names};
+ghost use Rattle.intake.specs.Prelude.{LendsFields};
 ghost use Rattle.selqumar.specs.Handle.{Asks, OfOpen, snapshot_in};
 ghost use Rattle.selqumar.specs.Lent.{IsLent, IsLentOf};
 ghost use Rattle.selqumar.specs.Status.{HasNoRoom, IsClosed, IsGiven, IsKept, Leaves, Never};
@@ -81,7 +81,7 @@ fn lent_at<'a>(
     }
 }
 
-/// Lends nodes without rows that name the fields of the table, for a table without batches too. They stand as long as the snapshot is left
+/// Lends nodes without rows that name the fields of the table as its batches are lent, for a table without batches too. They stand as long as the snapshot is left
 /// alone.
 #[unsafe(no_mangle)]
 pub extern "C" fn selqumar_lend_fields<'a>(
@@ -91,7 +91,7 @@ pub extern "C" fn selqumar_lend_fields<'a>(
     needed: &mut usize,
 ) -> u32
     ensures status { (result ≤ 4) × (result ≢ 1) }
-    ensures asks { Asks (snapshot_in snapshot.old.slot.pointee) (λ s lent. Names lent s.fields []) (λ _. Never)
+    ensures asks { Asks (snapshot_in snapshot.old.slot.pointee) (λ s lent. LendsFields lent s.fields []) (λ _. Never)
         result nodes.old nodes.new needed.old needed.new }
 {
     of_open!(snapshot, Snapshot(given) => lend_fields(alloc, given, nodes, needed))
@@ -105,7 +105,7 @@ fn lend_fields<'a>(
     needed: &mut usize,
 ) -> u32
     ensures status { (result ≤ 3) × (result ≢ 1) }
-    ensures leaves { Leaves (λ lent. Names lent snapshot.now.version.fields []) Never result nodes.old nodes.new needed.old needed.new }
+    ensures leaves { Leaves (λ lent. LendsFields lent snapshot.now.version.fields []) Never result nodes.old nodes.new needed.old needed.new }
 {
     match fields_of(alloc, snapshot.version.schema()) {
         Ok(lent) => put_items(&lent, GIVEN, nodes, needed),

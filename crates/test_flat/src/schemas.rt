@@ -4,7 +4,7 @@ use crate::testing::{ALONE, CODES, LIST, assert_case};
 use crate::{empty, node};
 use arrays::SchemaFault::DictInList;
 use arrays::{DataType, Field, Schema, is_too_deep};
-use intake::{FlatFault, Node, fields_of, schema_of};
+use intake::{FlatFault, Node, batch_of, fields_of, nodes_of, schema_of};
 use std::alloc::Global;
 use std::process::Abort;
 use std::test::Fail;
@@ -57,17 +57,18 @@ fn are_fields(alloc: Global, nodes: &[Node<'_>], count: usize) -> bool {
     }
 }
 
-/// Whether a node without slots names what another does: the same type, and unless it is a dictionary, the same name.
+/// Whether a node without slots names what another does: the same type, and the same name, which a dictionary hasn't.
 fn names_the_same(lent: &Node<'_>, named: &Node<'_>, is_dictionary: bool) -> bool {
     let has_type = (lent.format, lent.children, lent.dictionary)
         == (named.format, named.children, named.dictionary);
-    let has_name = (lent.name, lent.nullable == 0) == (named.name, named.nullable == 0);
-    has_type && (is_dictionary || has_name) && has_no_slot(lent)
+    let name: &[u8] = if is_dictionary { b"" } else { named.name };
+    let has_name = lent.name == name && (lent.nullable == 0) == (named.nullable == 0);
+    has_type && has_name && has_no_slot(lent)
 }
 
 fn has_no_slot(node: &Node<'_>) -> bool {
     let sizes = [node.validity.len(), node.first.len(), node.second.len()];
-    node.length == 0 && sizes == [0, 0, 0]
+    (node.length, node.null_count) == (0, 0) && sizes == [0, 0, 0]
 }
 
 /// Asserts that the fields of the six columns are lent as the nodes that named them.
@@ -87,6 +88,33 @@ fn expect_lent(rt: &impl Abort, alloc: Global, schema: &Schema) -> Result<(), Fa
 fn fields_are_lent_as_the_nodes_that_named_them(rt: HostRuntime) -> Result<(), Fail> {
     let schema = schema_of(rt.alloc(), &SIX)?;
     expect_lent(&rt, rt.alloc(), &schema)
+}
+
+/// Indices of 64 bits.
+static WIDE_CODES: [Node<'static>; 2] = [empty!(b"l", CODES), empty!(b"u", ALONE)];
+
+/// Whether these are indices of 32 bits, and texts without a name that may be null.
+fn are_codes(lent: &[Node<'_>]) -> bool {
+    match lent {
+        [codes, words] => {
+            (codes.format, codes.name) == (b"i", b"name")
+                && (words.format, words.name) == (b"u", b"")
+                && words.nullable != 0
+        }
+        _ => false,
+    }
+}
+
+#[test]
+fn indices_are_lent_with_32_bits(rt: HostRuntime) -> Result<(), Fail> {
+    let alloc = rt.alloc();
+    let schema = schema_of(alloc, &WIDE_CODES)?;
+    let fields = fields_of(alloc, &schema)?;
+    assert!(rt; are_codes(&fields));
+    let batch = batch_of(alloc, 0, &WIDE_CODES)?;
+    let columns = nodes_of(alloc, &batch)?;
+    assert!(rt; are_codes(&columns));
+    Ok(())
 }
 
 static NAMED: [Node<'static>; 2] = [

@@ -1,5 +1,5 @@
 use Rattle.std.proofs.Common.{◌≡◌, ◌∙◌, Some, ap}
-use Rattle.arrays.specs.Prelude.{Field, Shape, field_of, shape_of}
+use Rattle.arrays.specs.Prelude.{Field, field_of, shape_of}
 use Rattle.arrays.specs.Shape as shape
 use Rattle.flat.specs.Fields.{field_named}
 use Rattle.flat.proofs.FieldLemmas.{begins_coded, begins_listed, shape_of-Dict}

@@ -1,12 +1,14 @@
-use Rattle.std.proofs.Common.{true, [], subst}
-use Rattle.arrays.specs.Prelude.{Kind}
-use Rattle.arrays.proofs.ShapeLemmas.{kind_of-Utf8}
-use Rattle.flat.specs.Lent.{IsNodeOver}
+use Rattle.std.proofs.Common.{[], true}
+use Rattle.flat.proofs.LentLemmas.{dictionary_over}
+use Rattle.flat.proofs.NamedLemmas.{without_slots}
+use Rattle.arrays.specs.Kind as kind
 use Rattle.flat.proofs.named.push_texts.Goals as goal
 
 pub returns : goal.returns
-returns c = record {
-  own = c.node_over.result;
-  is = c.in_ok-push.ensures.items;
-  holds = (subst (λ (k : Kind). IsNodeOver [] true k 0 [] c.node_over.result) kind_of-Utf8 c.node_over.ensures).holds;
-}
+returns c =
+    let n = c.words_over.result in record {
+      own = n;
+      is = c.in_ok-push.ensures.items;
+      dictionary = dictionary_over 0 0 [] n c.words_over.ensures;
+      without = without_slots [] true kind.utf8 n c.words_over.ensures;
+    }
