@@ -48,11 +48,11 @@ pub record StopsColumns (nodes : List Node) (e : FlatFault) : Type 0 where
   pub before : Takes nodes fields columns (node ∷ behind)
   pub stops : StopsColumn (length fields) (node ∷ behind) e
 
--- The fields are no schema, or the columns under them no batch of so many rows.
+-- The fields are no schema, or they are one, and the columns under it no batch of so many rows.
 abbrev pub IsRefused : ℕ → List FieldShape → List Seen → FlatFault → Type 0
 IsRefused rows fields columns e =
     ((refused : SchemaFault) × (schema_fault fields ≡ Some refused) × (e ≡ fault.Schema refused))
-    ⊎ ((refused : BatchFault) × (batch_fault fields rows columns ≡ Some refused) × (e ≡ fault.Batch refused))
+    ⊎ ((refused : BatchFault) × (schema_fault fields ≡ None) × (batch_fault fields rows columns ≡ Some refused) × (e ≡ fault.Batch refused))
 
 -- No column is at fault, and together they are refused.
 pub record StopsTogether (rows : ℕ) (nodes : List Node) (e : FlatFault) : Type 0 where
