@@ -162,6 +162,10 @@ def stated_cases(program, room):
         always = executable(room, f"always {what}", f'case "$*" in *3.json*) kill -KILL $$ ;; esac\nexec "{program}" "$@"')
         lost = (3, b"", b"shards: shard 4 of 4 is lost: status 137\n")
         yield f"a program that is killed always, {what}", fault_of(program, room, query, names, 4, way, always, lost)
+    once = executable(room, "once merging", f'case $PWD in */shards-*) mkdir "{room}/merging" 2> /dev/null && kill -KILL $$ ;; esac\nexec "{program}" "$@"')
+    yield "a merge that is killed once", fault_of(program, room, query, names, 4, WAYS["threads"], once) or shard_use.difference(os.path.exists(f"{room}/merging"), True)
+    always = executable(room, "always merging", f'case $PWD in */shards-*) kill -KILL $$ ;; esac\nexec "{program}" "$@"')
+    yield "a merge that is killed always", fault_of(program, room, query, names, 4, WAYS["threads"], always, (3, b"", b"shards: the merge is lost: status 137\n"))
 
 
 def main():

@@ -17,17 +17,22 @@ TRIES = 3
 GRACE = 5
 # With these GNU parallel shows on standard error how far it is.
 SHOWING = {"--progress", "--verbose", "-v", "-t"}
-# Runs the program on the arguments, and ends its output by a line with its status and the first line of its fault.
+# Runs the program on the arguments, and ends its output by a line with its status and the first line of its fault. What no program of this kind says
+# is another's, such as that of a shell which can't fork: the shard is lost, and GNU parallel is told so by the status.
 SCRIPT = """{folder}
 set -- {words}
 exec 3>&1
 fault=$("$@" 2>&1 >&3 3>&- {given}
 )
 status=$?
-[ "$status" -le 2 ] || echo
-printf 'status %s %s\\n' "$status" "${{fault%%
-*}}"
-[ "$status" -le 2 ]
+fault=${{fault%%
+*}}
+case "$status $fault" in
+  "0 "* | "1 arrowtab: "* | "2 arrowtab: "* | "2 error: "*) end=status ;;
+  *) end=lost; echo ;;
+esac
+printf '%s %s %s\\n' "$end" "$status" "$fault"
+[ "$end" = status ]
 """
 
 
@@ -35,24 +40,25 @@ class Lost(Exception):
     """A shard that gave no answer, and why."""
 
 
-def script_of(words, files, schema):
-    """The script of a shard: the words of the program, the files' names, and a file that stands before them, none where it is empty."""
+def script_of(words, files, schema="", folder=None):
+    """The script of a shard: the words of the program, the files' names, a file that stands before them, none where it is empty, and the folder that
+    the names are of, else the one here."""
     given = "< /dev/null" if not schema else f"<< 'end of schema'\n{schema}\nend of schema"
     names = ["/dev/stdin", *files] if schema else files
     # Elsewhere a name is to be of the same folder.
     is_relative = any(not name.startswith("/") for name in files)
-    folder = f"cd {shlex.quote(os.getcwd())} || exit" if is_relative else ""
-    return os.fsencode(SCRIPT.format(folder=folder, words=shlex.join([*words, "--", *names]), given=given))
+    there = f"cd {shlex.quote(folder or os.getcwd())} || exit" if is_relative else ""
+    return os.fsencode(SCRIPT.format(folder=there, words=shlex.join([*words, "--", *names]), given=given))
 
 
 def outcome(output, why):
     """The lines of a shard, its status and its fault. Where it is lost, why: what it said of itself, or else this."""
     *lines, end = output.split(b"\n")
-    found = re.fullmatch(rb"status (\d+) (.*)", lines.pop()) if lines and not end else None
+    found = re.fullmatch(rb"(status|lost) (\d+) (.*)", lines.pop()) if lines and not end else None
     if not found:
         raise Lost(why or "it gave no answer")
-    status, fault = int(found[1]), os.fsdecode(found[2])
-    if status > 2 or (status == 2 and not fault) or (status == 1 and not fault.startswith("arrowtab: ")):
+    status, fault = int(found[2]), os.fsdecode(found[3])
+    if found[1] == b"lost":
         raise Lost(f"status {status}" + (f", {fault}" if fault else ""))
     return lines, status, fault
 
@@ -91,13 +97,15 @@ class Processes:
     def __exit__(self, *_):
         with self.lock:
             self.is_over, left = True, list(self.running)
-        for process in left:
-            process.terminate()
-        end = time.monotonic() + GRACE
-        while time.monotonic() < end and any(process.poll() is None for process in left):
-            time.sleep(0.02)
-        for process in left:
-            kill_session(process.pid)
+        try:
+            for process in left:
+                process.terminate()
+            end = time.monotonic() + GRACE
+            while time.monotonic() < end and any(process.poll() is None for process in left):
+                time.sleep(0.02)
+        finally:  # A signal may come while they are waited for.
+            for process in left:
+                kill_session(process.pid)
 
 
 def kill_session(leader):
@@ -139,12 +147,14 @@ def by_threads(scripts, at_once):
 def by_parallel(scripts, options, room):
     """The same by GNU parallel, with these options: each script is a record of its standard input, ended by a zero byte. Neither the caller's shell nor
     options from elsewhere have a say."""
+    if "{" in room:
+        raise Lost(f"GNU parallel reads words of its own in {room!r}: another TMPDIR has to be set")
     folder = tempfile.mkdtemp(dir=room)
     size = str(max(map(len, scripts)) + 1)
     words = ["parallel", "--plain", "--will-cite", "--pipe", "-N1", "--recend", "\\0", "--rrs", "--block", size, "--retries", str(TRIES)]
     words += ["--results", f"{folder}/{{#}}", *options, "sh"]
-    names = {**os.environ, "PARALLEL_SHELL": "/bin/sh", "TMPDIR": folder}
-    names.pop("PARALLEL", None)
+    others = {name: it for name, it in os.environ.items() if not name.upper().startswith("PARALLEL")}
+    names = {**others, "PARALLEL_SHELL": "/bin/sh", "TMPDIR": folder}
     fault = None if SHOWING & {*options} else subprocess.PIPE
 
     def run(processes, given):

@@ -21,7 +21,7 @@ PARALLEL = "--parallel=--jobs 2"
 
 def given(words, room, env=None, **how):
     """The status of a command in a folder, and both its outputs."""
-    how = {"stdin": subprocess.DEVNULL, **how}
+    how = how if "input" in how else {"stdin": subprocess.DEVNULL, **how}
     run = subprocess.run(words, cwd=room, env={**os.environ, **(env or {})}, capture_output=True, timeout=SECONDS, **how)
     return run.returncode, run.stdout, run.stderr
 
@@ -30,10 +30,16 @@ def difference(found, wanted):
     return None if found == wanted else f"{found!r:.400} and not {wanted!r:.400}"
 
 
-def same(program, room, query, names, *options, env=None):
+def same(program, room, query, names, *options, env=None, python=()):
     """Whether shards give what one machine gives."""
     wanted = given([program, "query", "--query", query, "--", *names], room)
-    return difference(given([SHARDS, "--arrowtab", program, *options, "--", query, *names], room, env), wanted)
+    return difference(given([*python, SHARDS, "--arrowtab", program, *options, "--", query, *names], room, env), wanted)
+
+
+def refusal(words, room, told, **how):
+    """Whether words are refused by a line that has this."""
+    status, out, fault = given(words, room, **how)
+    return difference((status, out, told in fault.decode(), b"Traceback" in fault), (2, b"", True, False))
 
 
 def texts_file(*texts):
@@ -109,13 +115,27 @@ def shell_cases(program, room):
 
 
 def elsewhere_cases(program, room):
-    """What is set for GNU parallel elsewhere has no say."""
-    at = folder(room, "elsewhere", {"a.json": texts_file("a", "b"), "b.json": texts_file("b")})
+    """What is set elsewhere, for GNU parallel or for Python, has no say."""
+    at = folder(room, "elsewhere", {"a.json": texts_file("a", "b"), "b.json": texts_file("b"), "é.json": texts_file("é")})
     for options in ("-v", "--colsep ,", "-q", "-n 2", "--tmux"):
         yield f"$PARALLEL is {options}", same(program, at, ROWS, ["a.json", "b.json"], PARALLEL, env={"PARALLEL": options})
     os.mkdir(os.path.join(at, ".parallel"))
     with open(os.path.join(at, ".parallel", "config"), "w", encoding="utf-8") as file:
         file.write("-v --colsep ,\n")
+    for name in ("PARALLEL_ENV", "parallel_bash_environment"):
+        yield f"${name}", same(program, at, ROWS, ["a.json", "b.json"], PARALLEL, env={name: "touch pwned"}) or difference(os.path.exists(f"{at}/pwned"), False)
+    braces = folder(at, "{= touch =}")
+    found = given([SHARDS, "--arrowtab", program, PARALLEL, ROWS, "a.json"], at, {"TMPDIR": braces})
+    yield "a TMPDIR that GNU parallel reads", difference((found[0], found[2].count(b"\n"), b"TMPDIR" in found[2]), (3, 1, True))
+    for name, python, env in [
+        ("PYTHONSAFEPATH", [], {"PYTHONSAFEPATH": "1"}),
+        ("python3 -I", [sys.executable, "-I"], {}),
+        ("a locale of ASCII", [], {"LC_ALL": "C", "PYTHONCOERCECLOCALE": "0", "PYTHONUTF8": "0"}),
+    ]:
+        yield name, same(program, at, ROWS, ["a.json", "é.json"], env=env, python=python)
+    # Where a stack has more than there is, no thread begins.
+    words = ["sh", "-c", 'ulimit -s 4000000 && ulimit -v 2000000 && exec "$@"', "sh", SHARDS, "--arrowtab", program, ROWS, "a.json"]
+    yield "no threads", difference(given(words, at), (3, b"", b"shards: can't start new thread\n"))
     yield "a file of options at home", same(program, at, ROWS, ["a.json", "b.json"], PARALLEL, env={"HOME": at, "PARALLEL_HOME": os.path.join(at, ".parallel")})
 
 
@@ -173,16 +193,21 @@ def loss_cases(program, room):
     silent = executable(at, "silent", "exit 0")
     half = executable(at, "half", "printf '\"a\" 1\\n\"b'")
     words = executable(at, "words", "echo some words")
+    forks = executable(at, "forks", "echo 'sh: 0: Cannot fork' >&2; exit 2")
+    once = executable(at, "once", f'mkdir "$0 $HOME" 2> /dev/null && exec ./forks\nexec "{program}" "$@"')
     lost = b"shards: shard 1 of 2 is lost: "
     for what, way in WAYS.items():
         for name, stands, query, told in [
             ("ends with status 7", ended, ROWS, lost + b"status 7, no more of this\n"),
             ("prints nothing where a line has to be", silent, none, lost + b"its lines are no groups\n"),
             ("prints half a line", half, ROWS, lost),
+            ("ends with another's status 2", forks, ROWS, lost + b"status 2, sh: 0: Cannot fork\n"),
             ("prints what is no group", words, ROWS, lost + b"its lines are no groups\n"),
         ]:
             found = given([SHARDS, "--arrowtab", stands, "--shards=2", way, query, *of], at)
             yield f"a program that {name}, {what}", difference((found[0], found[1], found[2][:len(told)], found[2].count(b"\n")), (3, b"", told, 1))
+        found = given([SHARDS, "--arrowtab", once, "--shards=2", way, ROWS, *of], at, {"HOME": what})
+        yield f"another's status 2, once, {what}", difference(found, given([program, "query", "--query", ROWS, *of], at))
     slow = executable(at, "slow", "sleep 60")
     for option, stands, told in [("--jbos", program, b"jbos"), ("--timeout x", program, b"--timeout"), ("-S host.invalid", program, b"host.invalid"), ("--timeout 1", slow, b"timed out")]:
         found = given([SHARDS, "--arrowtab", stands, "--parallel", option, ROWS, *of], at)
@@ -211,8 +236,7 @@ def word_cases(program, room):
         ("--dask local", ["--dask", "local", ROWS, "a.json"], "'local' is no address"),
         ("names that aren't there", ["--files-from=nothing", ROWS], "nothing"),
     ]:
-        found = given([SHARDS, "--arrowtab", program, *words], at)
-        yield name, difference((found[0], found[1], told in found[2].decode()), (2, b"", True))
+        yield name, refusal([SHARDS, "--arrowtab", program, *words], at, told)
     tree = folder(at, "tree")
     shutil.copytree(os.path.dirname(SHARDS), os.path.join(tree, "tools"))
     found = given([os.path.join(tree, "tools", "shards"), ROWS, "a.json"], at)
@@ -224,8 +248,7 @@ def word_cases(program, room):
     names = ["-x.json", "--dask=host:8786", "a.json"]
     yield "names behind --", same(program, at, ROWS, names)
     os.mkfifo(os.path.join(at, "pipe"))
-    found = given([SHARDS, "--arrowtab", program, ROWS, "pipe"], at)
-    yield "a pipe", difference((found[0], b"can be read only once" in found[2]), (2, True))
+    yield "a pipe", refusal([SHARDS, "--arrowtab", program, ROWS, "pipe"], at, "pipe can be read only once")
     for where in ("> /dev/full", ">&-"):
         found = given(["sh", "-c", f'"$@" {where}', "sh", SHARDS, "--arrowtab", program, ROWS, "a.json"], at)
         wanted = given(["sh", "-c", f'"$@" {where}', "sh", program, "query", "--query", ROWS, "a.json"], at)
@@ -233,6 +256,28 @@ def word_cases(program, room):
     name = b"\xff.json"
     wanted = given([program.encode(), b"query", b"--query", ROWS.encode(), b"a.json", name], at)
     yield "a name that is no UTF-8", difference(given([SHARDS.encode(), b"--arrowtab", program.encode(), ROWS.encode(), b"a.json", name], at), wanted)
+
+
+def name_cases(program, room):
+    """Behind the query all are names, whatever they look like; those of what a shard can't read are refused."""
+    names = ["--parallel=touch pwned; .json", "--dask=host:8786", "--", "-h", "-x.json"]
+    at = folder(room, "names", {"a.json": texts_file("a", "b"), **{name: texts_file("b") for name in names}})
+    begin, asked = [SHARDS, "--arrowtab", program], ["query", "--query", ROWS, "--"]
+    for words, files in [(["a.json", *names], ["a.json", *names]), (["--", *names], names), (names[:2] * 2, names[:2] * 2)]:
+        yield f"files {words}", difference(given([*begin, ROWS, *words], at), given([program, *asked, *files], at)) or difference(os.path.exists(f"{at}/pwned"), False)
+    for link, to in (("link", "/dev/stdin"), ("again", "link"), ("fd", "/dev/fd")):
+        os.symlink(to, os.path.join(at, link))
+    for name in ("-", "/dev/stdin", "/dev/fd/0", "/proc/self/fd/0", "/proc/thread-self/fd/3", "link", "./again", "fd/0"):
+        yield f"{name} as a file", refusal([*begin, ROWS, "a.json", name], at, f"{name} can be read by this process alone")
+    closed = ["sh", "-c", '"$@" <&-', "sh", *begin, "--files-from", "-", ROWS]
+    yield "names of a standard input that is closed", refusal(closed, at, "standard input is closed")
+    for what, lines, files in [
+        ("all end by CR LF", b"a.json\r\n-x.json\r\n", ["a.json", "-x.json"]),
+        ("all but the last end by CR LF", b"a.json\r\n-x.json", ["a.json", "-x.json"]),
+        ("one ends by CR LF", b"a.json\n-x.json\r\n", ["a.json", "-x.json\r"]),
+    ]:
+        found = given([*begin, "--files-from=-", ROWS], at, input=lines)
+        yield f"names of which {what}", difference(found, given([program, *asked, *files], at))
 
 
 # ---- signals
@@ -252,8 +297,9 @@ def signal_cases(room):
     """What is ended by a signal leaves no process and no folder."""
     at = folder(room, "signals", {"a.json": texts_file("a")})
     slow = executable(at, "slow", "echo >> begun\nsleep 300 &\nsleep 300")
+    further = (signal.SIGQUIT, signal.SIGALRM, signal.SIGUSR1, signal.SIGXCPU, signal.SIGIO, signal.SIGRTMIN)
     for what, way in WAYS.items():
-        for number in (signal.SIGTERM, signal.SIGINT, signal.SIGHUP):
+        for number in (signal.SIGTERM, signal.SIGINT, signal.SIGHUP, *(further if what == "threads" else ())):
             rest = folder(at, f"rest {what} {number}")
             env = {**os.environ, "TMPDIR": rest, "HOME": at}
             words = [SHARDS, "--arrowtab", slow, way, "--shards=4", ROWS, *["a.json"] * 4]
@@ -271,7 +317,7 @@ def signal_cases(room):
 
 def heeded():
     """A shell that starts something in the background has it ignore these."""
-    for number in (signal.SIGINT, signal.SIGHUP):
+    for number in (signal.SIGINT, signal.SIGHUP, signal.SIGQUIT):
         signal.signal(number, signal.SIG_DFL)
 
 
@@ -344,6 +390,6 @@ def dask_cases(program, room):
 
 
 def cases(program, room):
-    for some in (shell_cases, elsewhere_cases, size_cases, stage_cases, loss_cases, word_cases, dask_cases):
+    for some in (shell_cases, elsewhere_cases, size_cases, stage_cases, loss_cases, word_cases, name_cases, dask_cases):
         yield from some(program, room)
     yield from signal_cases(room)
