@@ -42,24 +42,65 @@ copy_crate() {
   done
 }
 
-# Makes the folder `room`, with a file of the time of now.
+ending="HUP INT QUIT PIPE ALRM TERM USR1 USR2 XCPU VTALRM PROF"
+
+# Begins a build in a folder, once no other is under way there. Makes the folder `room`, with a file of the time of now.
 begin() {
-  proof="" reporter=""
+  proof="" reporter="" fresh="" waits="" lock=$1/.building me=$$-$(start_of $$)
+  # In other folders too it is to be found.
+  case ${TMPDIR:-/} in /*) ;; *) export TMPDIR="$PWD/$TMPDIR" ;; esac
   room=$(mktemp -d)
   trap end EXIT
-  trap 'exit 1' HUP INT TERM
+  trap 'exit 1' $ending
+  mkdir -p "$1"
+  hold
   began=$(date +%s)
   touch "$room/began"
   mkdir "$room/crates"
-  mkdir -p "$(dirname "$log")"
   : > "$log"
 }
 
 # Ends what was begun, and removes the folder.
 end() {
-  trap - EXIT HUP INT TERM
+  trap - EXIT $ending
   kill $proof $reporter 2> /dev/null || true
-  rm -rf "$room"
+  rm -rf "$room" "$lock.$$" ${fresh:+"$fresh"}
+  rm -f "$lock/$me"
+  rmdir "$lock" 2> /dev/null || true
+}
+
+# When a process began, which tells it from another that has its number later; nothing where it has ended.
+start_of() { sed -n 's/.*) [^XZ] //p' "/proc/$1/stat" 2> /dev/null | cut -d ' ' -f 19; }
+
+# Waits until no other build is under way. One that is has the folder `lock`, which comes with a file whose name tells its process. Where that is
+# gone, the file is given the name of this one, which one process alone can do.
+hold() {
+  while :; do
+    rm -rf "$lock.$$"
+    mkdir "$lock.$$"
+    : > "$lock.$$/$me"
+    ! mv -fT "$lock.$$" "$lock" 2> /dev/null || return 0
+    rm -rf "$lock.$$"
+    for holder in "$lock"/*; do
+      holder=${holder##*/}
+      number=${holder%%-*}
+      [ "$holder" != "$number-$(start_of "$number")" ] || continue
+      mv -f "$lock/$holder" "$lock/$me" 2> /dev/null || continue
+      rm -rf "${lock%/*}"/*.new."$number"
+      return
+    done
+    [ -n "$waits" ] || say "waiting for another build, of process $number ($lock)"
+    waits=1
+    sleep 1
+  done
+}
+
+# Puts a file at a place, whole or not at all, as old as what it is made of.
+place() {
+  fresh=$2.new.$$
+  cp -p "$1" "$fresh"
+  touch -r "$room/began" "$fresh"
+  mv -f "$fresh" "$2"
 }
 
 say() { echo "$title: $*" >&2; }
