@@ -108,12 +108,16 @@ _GIVES = {"selqumar_close": None, "selqumar_snapshot_close": None, "selqumar_arr
 
 def _loaded() -> ctypes.CDLL:
     """The library, with what each function takes."""
-    here = os.path.dirname(os.path.abspath(__file__))
-    places = [os.path.join(here, LIBRARY), os.path.join(os.path.dirname(os.path.dirname(here)), "build", LIBRARY)]
+    here = os.path.dirname(os.path.realpath(__file__))
+    above, last = os.path.split(os.path.dirname(here))
+    places = [os.path.join(here, LIBRARY), os.path.join(above, "build", LIBRARY)]
+    if last == "selqumar" and os.path.basename(above) == "share":  # As tools/install puts it.
+        places.append(os.path.join(os.path.dirname(above), "lib", LIBRARY))
     named = os.environ.get("SELQUMAR_LIBRARY")
     place = named or next((it for it in places if os.path.exists(it)), None)
     if place is None:
-        raise ImportError(f"selqumar: there is no {LIBRARY} in {here} or in ../../build: `tools/library build` builds it, or the variable SELQUMAR_LIBRARY names one")
+        tried = " or ".join(os.path.dirname(it) for it in places)
+        raise ImportError(f"selqumar: there is no {LIBRARY} in {tried}: `tools/library build` builds it, or the variable SELQUMAR_LIBRARY names one")
     try:
         library = ctypes.CDLL(place)
         for function, takes in _FUNCTIONS.items():
