@@ -42,6 +42,7 @@ copy_crate() {
   done
 }
 
+# The signals that end a build, which leaves nothing behind then.
 ending="HUP INT QUIT PIPE ALRM TERM USR1 USR2 XCPU VTALRM PROF"
 
 # Begins a build in a folder, once no other is under way there. Makes the folder `room`, with a file of the time of now.
@@ -86,10 +87,10 @@ hold() {
       number=${holder%%-*}
       [ "$holder" != "$number-$(start_of "$number")" ] || continue
       mv -f "$lock/$holder" "$lock/$me" 2> /dev/null || continue
-      rm -rf "${lock%/*}"/*.new."$number"
+      rm -f "${lock%/*}"/*.new."$number"
       return
     done
-    [ -n "$waits" ] || say "waiting for another build, of process $number ($lock)"
+    [ -n "$waits" ] || say "waiting for another build ($lock/$holder)"
     waits=1
     sleep 1
   done
@@ -103,7 +104,7 @@ place() {
   mv -f "$fresh" "$2"
 }
 
-say() { echo "$title: $*" >&2; }
+say() { printf '%s: %s\n' "$title" "$*" >&2; }
 
 # The minutes that a proof of a crate and of all that it stands on takes at least, where nothing of it is proved yet: those of the last one here,
 # else those of a quiet machine, by the seconds that one of its processors takes for ten lines.
