@@ -41,6 +41,11 @@ def text_of(*names):
         return file.read()
 
 
+def shared_library():
+    """The name of the shared library, which the header counts."""
+    return "libselqumar.so." + re.search(r"^#define SELQUMAR_VERSION (\d+)$", text_of("include", "selqumar.h"), re.M)[1]
+
+
 def run(*words, cwd=TOP, **env):
     names = {name: it for name, it in os.environ.items() if name not in ("SELQUMAR_LIBRARY", "SOURCE_DATE_EPOCH")}
     return subprocess.run(words, cwd=cwd, env={**names, **env}, stdin=subprocess.DEVNULL, capture_output=True, text=True, timeout=SECONDS)
@@ -133,7 +138,7 @@ def wheel_cases(room):
         file.extractall(f"{room}/wheel")
         told = file.read(f"selqumar-{version}.dist-info/METADATA").decode().partition("\n\n")
     yield "what it tells", difference(("Description-Content-Type: text/markdown" in told[0].split("\n"), told[2]), (True, text_of("README.md")))
-    needed = re.findall(r"Name: GLIBC_([0-9.]+)", run("readelf", "--version-info", os.path.join(TOP, "build", "libselqumar.so.1")).stdout)
+    needed = re.findall(r"Name: GLIBC_([0-9.]+)", run("readelf", "--version-info", os.path.join(TOP, "build", shared_library())).stdout)
     newest = max([tuple(map(int, it.split("."))) for it in needed], default=None)
     yield "the newest version of glibc that it needs", None if newest and newest <= (2, 17) else f"{newest}"
     places = {"a wheel": f"{room}/wheel"}
@@ -157,13 +162,13 @@ def wheel_cases(room):
 def tree_cases(room, wheel):
     """Another tree makes the same wheel, and none of a library that is older than its sources."""
     tree = f"{room}/tree"
-    for name in ("tools", "python", "include"):
+    for name in ("tools", "python", "include", "c"):
         shutil.copytree(os.path.join(TOP, name), f"{tree}/{name}", ignore=shutil.ignore_patterns("__pycache__"))
     for name in ("README.md", "crates.txt", "HANDLES"):
         shutil.copyfile(os.path.join(TOP, name), f"{tree}/{name}")
     for name in ("crates", "build"):
         os.mkdir(f"{tree}/{name}")
-    for name in ("libselqumar.a", "libselqumar.so.1"):
+    for name in ("libselqumar.a", shared_library()):
         shutil.copyfile(os.path.join(TOP, "build", name), f"{tree}/build/{name}")
     os.chmod(f"{tree}/python/selqumar/_table.py", 0o600)
     same = wheel_of(f"{tree}/python", f"{tree}/wheels").stdout.strip()
