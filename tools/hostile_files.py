@@ -1,8 +1,8 @@
 #!/usr/bin/env python3
 """Runs `arrowtab` on files from strangers, each run under a limit of memory and of processor time: small ones that would cost much
-where an array, a schema or a dictionary were copied each time that it is named or grows; some that state 2147483647 where a count or an offset
-stands, and hold nothing; files that are cut, that are none, or whose fault has a place; ends that aren't files; first rows and groups that are large; and queries from files and
-standard input.
+where an array, a schema or a dictionary were copied each time that it is named or grows; some in which a member comes many times, or many of a sort, in the time that
+their size allows; some that state 2147483647 where a count or an offset stands, and hold nothing; files that are cut, that are none, or whose fault has a place; ends that aren't files;
+first rows and groups that are large; and queries from files and standard input.
 
     tools/hostile_files.py PROGRAM
 
@@ -133,6 +133,145 @@ def stated_files():
     yield {"schema": {"fields": []}, "batches": [{"count": MOST + 1, "columns": []}]}, "J3 WrongMember at /batches/0/count"
 
 
+# ---- what comes many times
+
+SIZE = 1000000
+
+
+def compact(value):
+    return json.dumps(value, separators=(",", ":"))
+
+
+def members(*pairs):
+    """An object of these members, whose values are texts. Several may have one name."""
+    return "{" + ",".join(f'"{name}":{value}' for name, value in pairs) + "}"
+
+
+def array(items):
+    return "[" + ",".join(items) + "]"
+
+
+def lists_of(depth):
+    """A field of so many lists in one another."""
+    if depth == 0:
+        return {"name": "m", "nullable": True, "type": {"name": "bool"}}
+    return {"name": "m", "nullable": True, "type": {"name": "list"}, "children": [lists_of(depth - 1)]}
+
+
+def column_of_lists(depth):
+    """A column of one such list, of true."""
+    if depth == 0:
+        return {"name": "m", "count": 1, "VALIDITY": [1], "DATA": [1]}
+    return {"name": "m", "count": 1, "VALIDITY": [1], "OFFSET": [0, 1], "children": [column_of_lists(depth - 1)]}
+
+
+def one_row():
+    """A file of one row with an object of each sort, lists in one another as deep as they may be."""
+    flat = [(one, {"name": one["name"], "count": 1, "VALIDITY": [1], "DATA": [0]}) for one in (field("int"), text_field("d", 0))]
+    fields, columns = zip(*flat, (lists_of(8), column_of_lists(8)))
+    return {"schema": {"fields": fields}, "dictionaries": [entry(0, 1)], "batches": [{"count": 1, "columns": columns}]}
+
+
+STATS_OF_ONE_ROW = (
+    'rows 1\nworker 0 calls 1 rows 1\n"n" int32 rows=1 nulls=0 sum=0 least=0 greatest=0\n"d" dictionary rows=1 nulls=0 sum=- least="" greatest=""\n'
+    '"m" list<list<list<list<list<list<list<list<bool>>>>>>>> rows=1 nulls=0 sum=- least=- greatest=-'
+)
+
+
+def parts_of(value):
+    """The parts of an object or an array, each with its step."""
+    return value.items() if isinstance(value, dict) else enumerate(value) if isinstance(value, (list, tuple)) else ()
+
+
+def objects(value, place=()):
+    """Each object in a value, with its place."""
+    if isinstance(value, dict):
+        yield place, value
+    for step, part in parts_of(value):
+        yield from objects(part, (*place, step))
+
+
+def with_object(value, place, text):
+    """The value with this text for the object of that place."""
+    if not place:
+        return text
+    parts = [(step, with_object(part, place[1:], text) if step == place[0] else compact(part)) for step, part in parts_of(value)]
+    return members(*parts) if isinstance(value, dict) else array(part for _, part in parts)
+
+
+def repeats(document):
+    """Each member of each object many times, and all its members in turn: what comes, and the file. It says what the document does."""
+    for place, found in objects(document):
+        each = [(name, compact(value)) for name, value in found.items()]
+        for name, turn in [("each", each), *((one[0], [one]) for one in each)][len(each) == 1 :]:
+            text = members(*each, *turn * (SIZE // len(members(*turn))))
+            yield f"{name} many times at /{'/'.join(map(str, place))}", with_object(document, place, text)
+
+
+def many(item):
+    """An array of as many as fill a file, each by its number."""
+    return array(map(item, range(SIZE // len(item(SIZE)))))
+
+
+def file_of(schema, batches, dictionaries="[]"):
+    return members(("schema", schema), ("dictionaries", dictionaries), ("batches", batches))
+
+
+def schema_of(*fields):
+    return compact({"fields": fields})
+
+
+def no_batches(first=(), last=()):
+    """Batches that are none, many times, between other members."""
+    return members(*first, *[("batches", "[]")] * (SIZE // 13), *last)
+
+
+def names_and(*others):
+    """Members that nobody asks for, and others."""
+    return members(*((f"x{number}", "[]") for number in range(SIZE // 12)), *others)
+
+
+def many_fields(one_name):
+    return members(("fields", many(lambda number: compact({**field("int"), "name": "n" if one_name else f"n{number}"}))))
+
+
+def many_flags():
+    """A column of nulls, whose DATA comes many times without any, and then with all."""
+    slots = SIZE // 8
+    nulls = array("0" * slots)
+    column = members(("count", slots), ("VALIDITY", nulls), *[("DATA", "[]")] * (SIZE // 20), ("DATA", nulls))
+    return file_of(schema_of(field("int")), array([members(("count", slots), ("columns", array([column])))]))
+
+
+def many_entries(number_of, first=()):
+    """A field of dictionary 0, and dictionaries of some numbers."""
+    count = SIZE // len(compact(entry(SIZE, 1)))
+    return file_of(schema_of(text_field("d", 0)), "[]", compact([*first, *(entry(number_of(number), 1) for number in range(count))]))
+
+
+SCHEMA = ("schema", schema_of())
+BATCH = members(("count", 1), ("columns", compact([{"name": "n", "count": 1, "DATA": [1]}])))
+# What there is much of, what makes the file, and the first line of its statistics or what is reported of it.
+CROWDS = [
+    ("batches before their schema", lambda: no_batches(last=[SCHEMA]), "rows 0"),
+    ("batches before a long schema", lambda: no_batches(last=[("schema", many_fields(True))]), "rows 0"),
+    ("batches without a schema", lambda: no_batches(), "J2 MissingMember at /schema"),
+    ("batches behind long dictionaries", lambda: no_batches([SCHEMA, ("dictionaries", compact("x" * SIZE))]), "rows 0"),
+    ("batches, the last of which are a number", lambda: no_batches([SCHEMA], [("batches", 1)]), "J3 WrongMember at /batches"),
+    ("words that might be a schema", lambda: members(("batches", "[]"), SCHEMA, ("x", compact("schem" * (SIZE // 5)))), "rows 0"),
+    ("schemas behind the file's", lambda: members(("batches", "[]"), SCHEMA, ("x", many(lambda number: '{"schema":[]}'))), "rows 0"),
+    ("members that nobody asks for", lambda: names_and(SCHEMA, ("batches", "[]")), "rows 0"),
+    ("members of a file at fault", lambda: names_and(SCHEMA, ("batches", 1)), "J3 WrongMember at /batches"),
+    ("fields of one name", lambda: file_of(many_fields(True), "[]"), "rows 0"),
+    ("fields of other names", lambda: file_of(many_fields(False), "[]"), "rows 0"),
+    ("dictionaries of one number", lambda: many_entries(lambda number: 0), "J9 DictionaryTwice at /dictionaries/1/id"),
+    ("dictionaries of one number behind another", lambda: many_entries(lambda number: 1, [entry(0, 1)]), "rows 0"),
+    ("dictionaries of other numbers", lambda: many_entries(lambda number: number), "rows 0"),
+    ("flags before no values", many_flags, f"rows {SIZE // 8}"),
+    ("batches of one row", lambda: file_of(schema_of(field("int")), many(lambda number: BATCH)), f"rows {SIZE // len(BATCH)}"),
+]
+
+
 # ---- files whose faults have a place
 
 A = '{"schema":{"fields":[{"name":"n","nullable":true,"type":{"name":"int","bitWidth":64,"isSigned":true},"children":[]}]},"batches":[{"count":3,"columns":[{"name":"n","count":3,"VALIDITY":[1,0,1],"DATA":["9223372036854775807","x",-1]}]}]}'
@@ -187,21 +326,6 @@ FILES = [
     ("two documents", A + A, "J1 NotJson"),
     ("a mark of the order of bytes", "\ufeff" + A, "J1 NotJson"),
 ]
-
-
-
-def lists_of(depth):
-    """A field of so many lists in one another."""
-    if depth == 0:
-        return {"name": "m", "nullable": True, "type": {"name": "bool"}}
-    return {"name": "m", "nullable": True, "type": {"name": "list"}, "children": [lists_of(depth - 1)]}
-
-
-def column_of_lists(depth):
-    """A column of one such list, of true."""
-    if depth == 0:
-        return {"name": "m", "count": 1, "DATA": [1]}
-    return {"name": "m", "count": 1, "OFFSET": [0, 1], "children": [column_of_lists(depth - 1)]}
 
 
 # What it is, a field of a column that is to be added, and what is reported.
@@ -302,6 +426,43 @@ class Runs:
         right = run.returncode == 0 and first == f"rows {rows}\n".encode() and lines >= columns + 1
         self.tell(name, None if right else f"status {run.returncode}, {lines} lines, {run.stderr[:200]!r}")
         print(f"{name}: within {megabytes} MB and {seconds} s", flush=True)
+
+    def seconds(self, path):
+        """A run, and its processor time."""
+        before = resource.getrusage(resource.RUSAGE_CHILDREN)
+        run = self.run([path], 200, 4)
+        after = resource.getrusage(resource.RUSAGE_CHILDREN)
+        return run, after.ru_utime - before.ru_utime + after.ru_stime - before.ru_stime
+
+    def in_time(self, name, text, wanted, most):
+        """Says whether a run told this first, in no more than so many seconds of one of three runs."""
+        path = self.file(text)
+        for _ in range(3):
+            run, seconds = self.seconds(path)
+            told = run.stdout if wanted.startswith("rows ") else run.stderr
+            right = told.decode().removeprefix(f"arrowtab: {path}: ").startswith(f"{wanted}\n")
+            if not right or seconds <= most:
+                break
+        if not right:
+            self.tell(name, f"status {run.returncode}, {run.stdout[:100]!r} {run.stderr[:200]!r}")
+        else:
+            self.tell(name, None if seconds <= most else f"{seconds:.2f} seconds")
+
+    def repeated(self):
+        """What comes many times takes as long as its size allows: four times as long as numbers of that size, and 0.2 seconds."""
+        numbers = {"name": "n", "count": SIZE // 4, "DATA": [100 + number % 900 for number in range(SIZE // 4)]}
+        path = self.file(file_of(schema_of(field("int")), compact([{"count": SIZE // 4, "columns": [numbers]}])))
+        most = 4 * min(self.seconds(path)[1] for _ in range(3)) + 0.2
+        for name, text in repeats(one_row()):
+            self.in_time(name, text, STATS_OF_ONE_ROW, most)
+        at_fault = one_row()
+        at_fault["batches"].append({"count": 0, "columns": []})
+        for name, text in repeats(at_fault):
+            if name.startswith("each "):
+                self.in_time(f"{name}, of a file at fault", text, "J7 CountDiffers at /batches/1/columns", most)
+        for name, make, wanted in CROWDS:
+            self.in_time(name, make(), wanted, most)
+        print(f"what comes many times: each within {most:.2f} s", flush=True)
 
     def cuts(self):
         """The file of three numbers at each cut, alone; and behind itself, cut after 100 bytes. A long one, in the memory of its bytes and its column."""
@@ -419,6 +580,7 @@ def main():
         runs = Runs(program, room)
         for cost in COSTS:
             runs.costs(*cost)
+        runs.repeated()
         for number, (document, wanted) in enumerate(stated_files()):
             path = runs.file(json.dumps(document, separators=(",", ":")))
             runs.expect(f"file {number} that states 2147483647", runs.run([path]), path, wanted)

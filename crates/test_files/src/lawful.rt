@@ -219,13 +219,16 @@ fn a_schema_of_another_object_decides_nothing(rt: HostRuntime) -> Result<(), Fai
     Ok(())
 }
 
-/// Files in which the document's schema or dictionaries can't be guessed: names with an escape, and a second schema behind the batches.
+/// Files whose batches are read last: the document's schema or dictionaries can't be guessed, as of names with an escape, or of a second schema behind
+/// the batches; or batches come again.
 #[rattlefmt::skip]
-static UNGUESSED: [&str; 4] = [
+static UNGUESSED: [&str; 6] = [
     r#"{"sch\u0065ma":{"fi\u0065lds":[{"n\u0061me":"n","nullabl\u0065":true,"childr\u0065n":[],"typ\u0065":{"name":"int","bit\u0057idth":8,"isSigned":true}}]},"b\u0061tches":[{"c\u006funt":1,"column\u0073":[{"c\u006funt":1,"V\u0041LIDITY":[1],"D\u0041TA":[1]}]}]}"#,
     r#"{"batches":[{"count":1,"columns":[{"count":1,"DATA":[1]}]}],"\u0073chema":{"fields":[{"name":"n","nullable":true,"children":[],"type":{"name":"int","bitWidth":8,"isSigned":true}}]}}"#,
     r#"{"schema":{"fields":[{"name":"n","nullable":true,"type":{"name":"utf8"},"dictionary":{"id":0,"indexType":{"name":"int","bitWidth":8,"isSigned":true}}}]},"batches":[{"count":1,"columns":[{"count":1,"DATA":[0]}]}],"dictionari\u0065s":[{"i\u0064":0,"d\u0061ta":{"count":1,"columns":[{"count":1,"DATA":["a"]}]}}]}"#,
     r#"{"schema":{"fields":[{"name":"n","nullable":true,"children":[],"type":{"name":"utf8"}}]},"batches":[{"count":1,"columns":[{"count":1,"DATA":[1]}]}],"schema":{"fields":[{"name":"n","nullable":true,"children":[],"type":{"name":"int","bitWidth":8,"isSigned":true}}]}}"#,
+    r#"{"schema":{"fields":[{"name":"n","nullable":true,"children":[],"type":{"name":"int","bitWidth":8,"isSigned":true}}]},"batches":[{"count":1,"columns":[{"count":1,"DATA":[1]}]}],"batches":[{"count":1,"columns":[{"count":1,"DATA":[2]}]}]}"#,
+    r#"{"batches":[{"count":1,"columns":[{"count":1,"DATA":[300]}]}],"batches":7,"schema":{"fields":[{"name":"n","nullable":true,"children":[],"type":{"name":"int","bitWidth":8,"isSigned":true}}]},"batches":[{"count":2,"columns":[{"count":2,"DATA":[2,3]}]}]}"#,
 ];
 
 #[test]
