@@ -37,7 +37,7 @@ static uint32_t lend_all(struct shared *shared, const size_t *batch, uint32_t *r
 }
 
 /* The nodes of a batch, or of the fields, with room for so many bytes each and so many more: none where memory is refused. */
-static struct shared *share(struct selqumar_snapshot *snapshot, const size_t *batch, uint32_t *rows, size_t each) {
+static struct shared *share(const struct selqumar_snapshot *snapshot, const size_t *batch, uint32_t *rows, size_t each) {
   struct shared *shared = (struct shared *)calloc(1, sizeof *shared);
   if (!shared)
     return NULL;
@@ -83,7 +83,7 @@ static void put_array(const struct selqumar_node *node, struct ArrowArray *array
 }
 
 /* A batch of a snapshot. */
-static int put_batch(struct selqumar_snapshot *snapshot, size_t batch, struct ArrowArray *out) {
+static int put_batch(const struct selqumar_snapshot *snapshot, size_t batch, struct ArrowArray *out) {
   static const void *no_validity[1];
   uint32_t rows = 0;
   struct shared *shared = share(snapshot, &batch, &rows, sizeof *out + 5 * sizeof(void *));
@@ -145,7 +145,7 @@ static size_t text_length(const struct shared *shared) {
 }
 
 /* The schema of a snapshot. */
-static int put_schema(struct selqumar_snapshot *snapshot, struct ArrowSchema *out) {
+static int put_schema(const struct selqumar_snapshot *snapshot, struct ArrowSchema *out) {
   struct shared *shared = share(snapshot, NULL, NULL, 1);
   struct ArrowSchema *schemas, **inside, **columns;
   size_t texts;
@@ -223,7 +223,7 @@ static void release_stream(struct ArrowArrayStream *stream) {
 }
 
 /* A stream of the batches of a snapshot, which stays the caller's. */
-uint32_t selqumar_arrow_snapshot_stream(struct selqumar_snapshot *snapshot, struct ArrowArrayStream *stream) {
+uint32_t selqumar_arrow_snapshot_stream(const struct selqumar_snapshot *snapshot, struct ArrowArrayStream *stream) {
   struct batches *batches = (struct batches *)calloc(1, sizeof *batches);
   uint32_t status = batches ? selqumar_snapshot_share(snapshot, &batches->snapshot) : (uint32_t)SELQUMAR_NO_MEMORY;
   if (status == SELQUMAR_GIVEN)
@@ -241,7 +241,7 @@ uint32_t selqumar_arrow_snapshot_stream(struct selqumar_snapshot *snapshot, stru
 }
 
 /* A stream of the batches of the table that is open. What is added to it later isn't in the stream. */
-uint32_t selqumar_arrow_stream(struct selqumar_handle *handle, struct ArrowArrayStream *stream) {
+uint32_t selqumar_arrow_stream(const struct selqumar_handle *handle, struct ArrowArrayStream *stream) {
   struct selqumar_snapshot snapshot = SELQUMAR_CLOSED;
   uint32_t status = selqumar_snapshot_open(handle, &snapshot);
   if (status == SELQUMAR_GIVEN)

@@ -117,15 +117,15 @@ uint32_t selqumar_compact(struct selqumar_handle *handle, uint32_t max_rows, uin
   return selqumar_proved_compact(handle, max_rows, some_out(out), room, needed);
 }
 
-uint32_t selqumar_open_stats(struct selqumar_handle *handle, uint32_t workers, uint8_t *out, size_t room, size_t *needed) {
+uint32_t selqumar_open_stats(const struct selqumar_handle *handle, uint32_t workers, uint8_t *out, size_t room, size_t *needed) {
   return selqumar_proved_stats_of(handle, workers, some_out(out), room, needed);
 }
 
-uint32_t selqumar_open_export(struct selqumar_handle *handle, uint8_t *out, size_t room, size_t *needed) {
+uint32_t selqumar_open_export(const struct selqumar_handle *handle, uint8_t *out, size_t room, size_t *needed) {
   return selqumar_proved_open_export(handle, some_out(out), room, needed);
 }
 
-uint32_t selqumar_open_query(struct selqumar_handle *handle, const uint8_t *query, size_t query_length, uint8_t *out, size_t room, size_t *needed) {
+uint32_t selqumar_open_query(const struct selqumar_handle *handle, const uint8_t *query, size_t query_length, uint8_t *out, size_t room, size_t *needed) {
   return selqumar_proved_open_query(handle, some(query), query_length, some_out(out), room, needed);
 }
 
@@ -136,32 +136,32 @@ void selqumar_close(struct selqumar_handle *handle) {
 
 /* ---- snapshots */
 
-uint32_t selqumar_snapshot_open(struct selqumar_handle *handle, struct selqumar_snapshot *snapshot) {
+uint32_t selqumar_snapshot_open(const struct selqumar_handle *handle, struct selqumar_snapshot *snapshot) {
   return selqumar_proved_snapshot(handle, snapshot);
 }
 
-uint32_t selqumar_snapshot_share(struct selqumar_snapshot *snapshot, struct selqumar_snapshot *copy) {
+uint32_t selqumar_snapshot_share(const struct selqumar_snapshot *snapshot, struct selqumar_snapshot *copy) {
   return selqumar_proved_snapshot_share(snapshot, copy);
 }
 
-uint32_t selqumar_snapshot_stats(struct selqumar_snapshot *snapshot, uint32_t workers, uint8_t *out, size_t room, size_t *needed) {
+uint32_t selqumar_snapshot_stats(const struct selqumar_snapshot *snapshot, uint32_t workers, uint8_t *out, size_t room, size_t *needed) {
   return selqumar_proved_snapshot_stats(snapshot, workers, some_out(out), room, needed);
 }
 
-uint32_t selqumar_snapshot_export(struct selqumar_snapshot *snapshot, uint8_t *out, size_t room, size_t *needed) {
+uint32_t selqumar_snapshot_export(const struct selqumar_snapshot *snapshot, uint8_t *out, size_t room, size_t *needed) {
   return selqumar_proved_snapshot_export(snapshot, some_out(out), room, needed);
 }
 
-uint32_t selqumar_snapshot_query(struct selqumar_snapshot *snapshot, const uint8_t *query, size_t query_length, uint8_t *out, size_t room, size_t *needed) {
+uint32_t selqumar_snapshot_query(const struct selqumar_snapshot *snapshot, const uint8_t *query, size_t query_length, uint8_t *out, size_t room, size_t *needed) {
   return selqumar_proved_snapshot_query(snapshot, some(query), query_length, some_out(out), room, needed);
 }
 
-uint32_t selqumar_answer(struct selqumar_snapshot *snapshot, const uint8_t *query, size_t query_length, struct selqumar_handle *handle, uint8_t *out, size_t room,
+uint32_t selqumar_answer(const struct selqumar_snapshot *snapshot, const uint8_t *query, size_t query_length, struct selqumar_handle *handle, uint8_t *out, size_t room,
                          size_t *needed) {
   return selqumar_proved_answer(snapshot, some(query), query_length, handle, some_out(out), room, needed);
 }
 
-uint32_t selqumar_batch_count(struct selqumar_snapshot *snapshot, size_t *count) {
+uint32_t selqumar_batch_count(const struct selqumar_snapshot *snapshot, size_t *count) {
   return selqumar_proved_batch_count(snapshot, count);
 }
 
@@ -174,11 +174,11 @@ static struct selqumar_node *empty_nodes(struct selqumar_node *nodes, size_t roo
   return nodes ? nodes : (struct selqumar_node *)no_bytes();
 }
 
-uint32_t selqumar_lend(struct selqumar_snapshot *snapshot, size_t batch, uint32_t *rows, struct selqumar_node *nodes, size_t room, size_t *needed) {
+uint32_t selqumar_lend(const struct selqumar_snapshot *snapshot, size_t batch, uint32_t *rows, struct selqumar_node *nodes, size_t room, size_t *needed) {
   return selqumar_proved_lend(snapshot, batch, rows, empty_nodes(nodes, room), room, needed);
 }
 
-uint32_t selqumar_lend_fields(struct selqumar_snapshot *snapshot, struct selqumar_node *nodes, size_t room, size_t *needed) {
+uint32_t selqumar_lend_fields(const struct selqumar_snapshot *snapshot, struct selqumar_node *nodes, size_t room, size_t *needed) {
   return selqumar_proved_lend_fields(snapshot, empty_nodes(nodes, room), room, needed);
 }
 

@@ -15,20 +15,20 @@ uint32_t selqumar_proved_append(struct selqumar_handle *handle, uint32_t worker,
                                 size_t room, size_t *needed);
 uint32_t selqumar_proved_add_column(struct selqumar_handle *handle, const struct selqumar_node *nodes, size_t count, uint8_t *out, size_t room, size_t *needed);
 uint32_t selqumar_proved_compact(struct selqumar_handle *handle, uint32_t max_rows, uint8_t *out, size_t room, size_t *needed);
-uint32_t selqumar_proved_stats_of(struct selqumar_handle *handle, uint32_t workers, uint8_t *out, size_t room, size_t *needed);
-uint32_t selqumar_proved_open_export(struct selqumar_handle *handle, uint8_t *out, size_t room, size_t *needed);
-uint32_t selqumar_proved_open_query(struct selqumar_handle *handle, const uint8_t *query, size_t query_length, uint8_t *out, size_t room, size_t *needed);
+uint32_t selqumar_proved_stats_of(const struct selqumar_handle *handle, uint32_t workers, uint8_t *out, size_t room, size_t *needed);
+uint32_t selqumar_proved_open_export(const struct selqumar_handle *handle, uint8_t *out, size_t room, size_t *needed);
+uint32_t selqumar_proved_open_query(const struct selqumar_handle *handle, const uint8_t *query, size_t query_length, uint8_t *out, size_t room, size_t *needed);
 void selqumar_proved_close(struct selqumar_handle *handle);
-uint32_t selqumar_proved_snapshot(struct selqumar_handle *handle, struct selqumar_snapshot *snapshot);
-uint32_t selqumar_proved_snapshot_share(struct selqumar_snapshot *snapshot, struct selqumar_snapshot *copy);
-uint32_t selqumar_proved_snapshot_stats(struct selqumar_snapshot *snapshot, uint32_t workers, uint8_t *out, size_t room, size_t *needed);
-uint32_t selqumar_proved_snapshot_export(struct selqumar_snapshot *snapshot, uint8_t *out, size_t room, size_t *needed);
-uint32_t selqumar_proved_snapshot_query(struct selqumar_snapshot *snapshot, const uint8_t *query, size_t query_length, uint8_t *out, size_t room, size_t *needed);
-uint32_t selqumar_proved_answer(struct selqumar_snapshot *snapshot, const uint8_t *query, size_t query_length, struct selqumar_handle *handle, uint8_t *out, size_t room,
+uint32_t selqumar_proved_snapshot(const struct selqumar_handle *handle, struct selqumar_snapshot *snapshot);
+uint32_t selqumar_proved_snapshot_share(const struct selqumar_snapshot *snapshot, struct selqumar_snapshot *copy);
+uint32_t selqumar_proved_snapshot_stats(const struct selqumar_snapshot *snapshot, uint32_t workers, uint8_t *out, size_t room, size_t *needed);
+uint32_t selqumar_proved_snapshot_export(const struct selqumar_snapshot *snapshot, uint8_t *out, size_t room, size_t *needed);
+uint32_t selqumar_proved_snapshot_query(const struct selqumar_snapshot *snapshot, const uint8_t *query, size_t query_length, uint8_t *out, size_t room, size_t *needed);
+uint32_t selqumar_proved_answer(const struct selqumar_snapshot *snapshot, const uint8_t *query, size_t query_length, struct selqumar_handle *handle, uint8_t *out, size_t room,
                                 size_t *needed);
-uint32_t selqumar_proved_batch_count(struct selqumar_snapshot *snapshot, size_t *count);
-uint32_t selqumar_proved_lend(struct selqumar_snapshot *snapshot, size_t batch, uint32_t *rows, struct selqumar_node *nodes, size_t room, size_t *needed);
-uint32_t selqumar_proved_lend_fields(struct selqumar_snapshot *snapshot, struct selqumar_node *nodes, size_t room, size_t *needed);
+uint32_t selqumar_proved_batch_count(const struct selqumar_snapshot *snapshot, size_t *count);
+uint32_t selqumar_proved_lend(const struct selqumar_snapshot *snapshot, size_t batch, uint32_t *rows, struct selqumar_node *nodes, size_t room, size_t *needed);
+uint32_t selqumar_proved_lend_fields(const struct selqumar_snapshot *snapshot, struct selqumar_node *nodes, size_t room, size_t *needed);
 void selqumar_proved_snapshot_close(struct selqumar_snapshot *snapshot);
 
 #endif

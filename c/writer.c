@@ -11,8 +11,8 @@ static const size_t RESERVED = (size_t)1 << 42, ROOM = (size_t)1 << 20;
 struct call {
   uint32_t (*run)(const struct call *call, uint8_t *out, size_t room, size_t *needed);
   const struct selqumar_bytes *files;
-  struct selqumar_handle *handle;
-  struct selqumar_snapshot *snapshot;
+  const struct selqumar_handle *handle;
+  const struct selqumar_snapshot *snapshot;
   size_t count;
   const uint8_t *query;
   size_t query_length;
@@ -103,32 +103,32 @@ uint32_t selqumar_query_to(const struct selqumar_bytes *files, size_t count, con
   return give(&call, writer, state);
 }
 
-uint32_t selqumar_open_stats_to(struct selqumar_handle *handle, uint32_t workers, selqumar_writer *writer, void *state) {
+uint32_t selqumar_open_stats_to(const struct selqumar_handle *handle, uint32_t workers, selqumar_writer *writer, void *state) {
   const struct call call = {.run = open_stats, .handle = handle, .count = workers};
   return give(&call, writer, state);
 }
 
-uint32_t selqumar_open_export_to(struct selqumar_handle *handle, selqumar_writer *writer, void *state) {
+uint32_t selqumar_open_export_to(const struct selqumar_handle *handle, selqumar_writer *writer, void *state) {
   const struct call call = {.run = open_export, .handle = handle};
   return give(&call, writer, state);
 }
 
-uint32_t selqumar_open_query_to(struct selqumar_handle *handle, const uint8_t *text, size_t length, selqumar_writer *writer, void *state) {
+uint32_t selqumar_open_query_to(const struct selqumar_handle *handle, const uint8_t *text, size_t length, selqumar_writer *writer, void *state) {
   const struct call call = {.run = open_query, .handle = handle, .query = text, .query_length = length};
   return give(&call, writer, state);
 }
 
-uint32_t selqumar_snapshot_stats_to(struct selqumar_snapshot *snapshot, uint32_t workers, selqumar_writer *writer, void *state) {
+uint32_t selqumar_snapshot_stats_to(const struct selqumar_snapshot *snapshot, uint32_t workers, selqumar_writer *writer, void *state) {
   const struct call call = {.run = snapshot_stats, .snapshot = snapshot, .count = workers};
   return give(&call, writer, state);
 }
 
-uint32_t selqumar_snapshot_export_to(struct selqumar_snapshot *snapshot, selqumar_writer *writer, void *state) {
+uint32_t selqumar_snapshot_export_to(const struct selqumar_snapshot *snapshot, selqumar_writer *writer, void *state) {
   const struct call call = {.run = snapshot_export, .snapshot = snapshot};
   return give(&call, writer, state);
 }
 
-uint32_t selqumar_snapshot_query_to(struct selqumar_snapshot *snapshot, const uint8_t *text, size_t length, selqumar_writer *writer, void *state) {
+uint32_t selqumar_snapshot_query_to(const struct selqumar_snapshot *snapshot, const uint8_t *text, size_t length, selqumar_writer *writer, void *state) {
   const struct call call = {.run = snapshot_query, .snapshot = snapshot, .query = text, .query_length = length};
   return give(&call, writer, state);
 }

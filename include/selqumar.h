@@ -15,8 +15,9 @@
    name ends in `_to` gives the text to a writer, and nothing is computed twice.
 
    Nothing stays between calls but what is open in a handle: the table of files that `selqumar_open` read, or one that `selqumar_new` made and
-   `selqumar_append` filled. A call that is refused leaves it as it was. Calls may run at once in several threads, each with buffers and handles of its
-   own. Several threads may use one handle, one at a time under a lock. A call needs 128 kB of stack. What the caller owes is checked by nothing:
+   `selqumar_append` filled. A call that is refused leaves it as it was. Calls may run at once in several threads, each with buffers of its own: on one
+   handle or snapshot those that only look at it, which take it by a pointer to const. All others have it alone, as under a lock. A call needs 128 kB of
+   stack. What the caller owes is checked by nothing:
 
      - `files` and `nodes` have `count` entries, and each `data` has `length` bytes; a length is below 2^63. Nothing that these bytes say is trusted, but
        nobody writes to `files`, `nodes`, `query` or what they point to before the call returns.
@@ -112,13 +113,13 @@ uint32_t selqumar_add_column(struct selqumar_handle *handle, const struct selqum
 uint32_t selqumar_compact(struct selqumar_handle *handle, uint32_t max_rows, uint8_t *out, size_t room, size_t *needed);
 
 /* What `arrowtab stats` prints of the table that is open, with so many workers. */
-uint32_t selqumar_open_stats(struct selqumar_handle *handle, uint32_t workers, uint8_t *out, size_t room, size_t *needed);
+uint32_t selqumar_open_stats(const struct selqumar_handle *handle, uint32_t workers, uint8_t *out, size_t room, size_t *needed);
 
 /* What `arrowtab export` prints of it. */
-uint32_t selqumar_open_export(struct selqumar_handle *handle, uint8_t *out, size_t room, size_t *needed);
+uint32_t selqumar_open_export(const struct selqumar_handle *handle, uint8_t *out, size_t room, size_t *needed);
 
 /* What `arrowtab query` prints of it: a line for each group. */
-uint32_t selqumar_open_query(struct selqumar_handle *handle, const uint8_t *query, size_t query_length, uint8_t *out, size_t room, size_t *needed);
+uint32_t selqumar_open_query(const struct selqumar_handle *handle, const uint8_t *query, size_t query_length, uint8_t *out, size_t room, size_t *needed);
 
 /* Closes the table that is open in the handle, if one is. The handle may be null. */
 void selqumar_close(struct selqumar_handle *handle);
@@ -126,7 +127,7 @@ void selqumar_close(struct selqumar_handle *handle);
 /* ---- A table at a moment */
 
 /* A snapshot of a table, or none. It stays as it is, whatever is added to the table or changed there, and also when that is closed. What is said of a handle holds of
-   it: it begins as all zeros, or with SELQUMAR_CLOSED, and only calls change it. A thread may read one while another adds to the table: each has its own. */
+   it: it begins as all zeros, or with SELQUMAR_CLOSED, and only calls change it. Threads may read one while another adds to the table. */
 struct selqumar_snapshot {
   bool is_open;
   void *version;
@@ -134,43 +135,43 @@ struct selqumar_snapshot {
 
 /* Opens a snapshot of the table that is open in the handle, in place of the one that is held. No row is copied. Where it answers another status than
    SELQUMAR_GIVEN, what was held stays. */
-uint32_t selqumar_snapshot_open(struct selqumar_handle *handle, struct selqumar_snapshot *snapshot);
+uint32_t selqumar_snapshot_open(const struct selqumar_handle *handle, struct selqumar_snapshot *snapshot);
 
-/* The same of the moment of another snapshot, which stays as it is. It is a use of that one. */
-uint32_t selqumar_snapshot_share(struct selqumar_snapshot *snapshot, struct selqumar_snapshot *copy);
+/* The same of the moment of another snapshot, which stays as it is. */
+uint32_t selqumar_snapshot_share(const struct selqumar_snapshot *snapshot, struct selqumar_snapshot *copy);
 
 /* What `arrowtab stats` prints of it, with so many workers. */
-uint32_t selqumar_snapshot_stats(struct selqumar_snapshot *snapshot, uint32_t workers, uint8_t *out, size_t room, size_t *needed);
+uint32_t selqumar_snapshot_stats(const struct selqumar_snapshot *snapshot, uint32_t workers, uint8_t *out, size_t room, size_t *needed);
 
 /* What `arrowtab export` prints of it. */
-uint32_t selqumar_snapshot_export(struct selqumar_snapshot *snapshot, uint8_t *out, size_t room, size_t *needed);
+uint32_t selqumar_snapshot_export(const struct selqumar_snapshot *snapshot, uint8_t *out, size_t room, size_t *needed);
 
 /* What `arrowtab query` prints of it: a line for each group. */
-uint32_t selqumar_snapshot_query(struct selqumar_snapshot *snapshot, const uint8_t *query, size_t query_length, uint8_t *out, size_t room, size_t *needed);
+uint32_t selqumar_snapshot_query(const struct selqumar_snapshot *snapshot, const uint8_t *query, size_t query_length, uint8_t *out, size_t room, size_t *needed);
 
 /* Opens a table of what the query answers of it in the handle, in place of the table that is open there: a row for each line that `selqumar_snapshot_query`
    prints, a column for each item of a key and each aggregate. The snapshot stays as it is. Nothing is printed; where it answers another status than
    SELQUMAR_GIVEN, what was open in the handle stays open. */
-uint32_t selqumar_answer(struct selqumar_snapshot *snapshot, const uint8_t *query, size_t query_length, struct selqumar_handle *handle, uint8_t *out, size_t room,
+uint32_t selqumar_answer(const struct selqumar_snapshot *snapshot, const uint8_t *query, size_t query_length, struct selqumar_handle *handle, uint8_t *out, size_t room,
                          size_t *needed);
 
 /* How many batches it has. */
-uint32_t selqumar_batch_count(struct selqumar_snapshot *snapshot, size_t *count);
+uint32_t selqumar_batch_count(const struct selqumar_snapshot *snapshot, size_t *count);
 
 /* Lends the columns of a batch, numbered from 0, as nodes over the table's own bytes: nothing is copied. `*rows` is how many rows each has, `*needed` how many nodes they
    are, which stand at the front of `nodes`. A column of texts whose offsets have 32 bits is one of indices, of 32 bits, with a dictionary, which begins that of the whole
-   table: an index means the same text in each batch. How many slots are null isn't said. What is lent stands until the next call with this snapshot, so that for two
-   batches at once there are two snapshots (`selqumar_snapshot_share`); it is read only. The name of a dictionary is empty.
+   table: an index means the same text in each batch. How many slots are null isn't said. What is lent stands until the snapshot is closed, or another is opened in its
+   place; it is read only. The name of a dictionary is empty, and it may be null.
 
      SELQUMAR_GIVEN      `*rows`, `*needed` and so many nodes are written.
      SELQUMAR_SHORT      `nodes` has no room for `*needed` nodes. `*rows` stays as it was.
      SELQUMAR_NO_MEMORY, SELQUMAR_NOT_OPEN, SELQUMAR_NO_BATCH   `*rows` and `*needed` stay as they were.
 
    Of `nodes` nothing needs to be initialized; those behind the ones that are lent, or all where none are, become columns of nothing. */
-uint32_t selqumar_lend(struct selqumar_snapshot *snapshot, size_t batch, uint32_t *rows, struct selqumar_node *nodes, size_t room, size_t *needed);
+uint32_t selqumar_lend(const struct selqumar_snapshot *snapshot, size_t batch, uint32_t *rows, struct selqumar_node *nodes, size_t room, size_t *needed);
 
-/* Lends nodes without rows and without buffers that name the fields, also where there is no batch. Otherwise as `selqumar_lend`. */
-uint32_t selqumar_lend_fields(struct selqumar_snapshot *snapshot, struct selqumar_node *nodes, size_t room, size_t *needed);
+/* Lends nodes that name the fields as those of the batches do, without rows and without buffers, also where there is no batch. Otherwise as `selqumar_lend`. */
+uint32_t selqumar_lend_fields(const struct selqumar_snapshot *snapshot, struct selqumar_node *nodes, size_t room, size_t *needed);
 
 /* Closes the snapshot that is open, if one is. What it lent is gone then. The snapshot may be null. */
 void selqumar_snapshot_close(struct selqumar_snapshot *snapshot);
@@ -178,7 +179,7 @@ void selqumar_snapshot_close(struct selqumar_snapshot *snapshot);
 /* ---- Texts for a writer */
 
 /* Gets the text of a call, with SELQUMAR_GIVEN, or the line of its fault, with SELQUMAR_FAULT: all of it, once. It is gone when the writer returns. `state` is what the
-   caller handed in. A writer may make calls of its own, but none with the handle or the snapshot that is asked. */
+   caller handed in. A writer may make calls of its own, with the handle or the snapshot that is asked those that only look. */
 typedef void selqumar_writer(void *state, uint32_t status, const uint8_t *text, size_t length);
 
 /* Each is the call without `_to`, but for the writer. None answers SELQUMAR_SHORT; with another status than SELQUMAR_GIVEN and SELQUMAR_FAULT nothing is written.
@@ -186,12 +187,12 @@ typedef void selqumar_writer(void *state, uint32_t status, const uint8_t *text, 
 uint32_t selqumar_stats_to(const struct selqumar_bytes *files, size_t count, selqumar_writer *writer, void *state);
 uint32_t selqumar_export_to(const struct selqumar_bytes *files, size_t count, selqumar_writer *writer, void *state);
 uint32_t selqumar_query_to(const struct selqumar_bytes *files, size_t count, const uint8_t *query, size_t query_length, selqumar_writer *writer, void *state);
-uint32_t selqumar_open_stats_to(struct selqumar_handle *handle, uint32_t workers, selqumar_writer *writer, void *state);
-uint32_t selqumar_open_export_to(struct selqumar_handle *handle, selqumar_writer *writer, void *state);
-uint32_t selqumar_open_query_to(struct selqumar_handle *handle, const uint8_t *query, size_t query_length, selqumar_writer *writer, void *state);
-uint32_t selqumar_snapshot_stats_to(struct selqumar_snapshot *snapshot, uint32_t workers, selqumar_writer *writer, void *state);
-uint32_t selqumar_snapshot_export_to(struct selqumar_snapshot *snapshot, selqumar_writer *writer, void *state);
-uint32_t selqumar_snapshot_query_to(struct selqumar_snapshot *snapshot, const uint8_t *query, size_t query_length, selqumar_writer *writer, void *state);
+uint32_t selqumar_open_stats_to(const struct selqumar_handle *handle, uint32_t workers, selqumar_writer *writer, void *state);
+uint32_t selqumar_open_export_to(const struct selqumar_handle *handle, selqumar_writer *writer, void *state);
+uint32_t selqumar_open_query_to(const struct selqumar_handle *handle, const uint8_t *query, size_t query_length, selqumar_writer *writer, void *state);
+uint32_t selqumar_snapshot_stats_to(const struct selqumar_snapshot *snapshot, uint32_t workers, selqumar_writer *writer, void *state);
+uint32_t selqumar_snapshot_export_to(const struct selqumar_snapshot *snapshot, selqumar_writer *writer, void *state);
+uint32_t selqumar_snapshot_query_to(const struct selqumar_snapshot *snapshot, const uint8_t *query, size_t query_length, selqumar_writer *writer, void *state);
 
 /* ---- What a line says */
 

@@ -104,10 +104,10 @@ bool selqumar_arrow_take(struct ArrowArrayStream *stream, struct ArrowArrayStrea
    ENOMEM where a request for memory was refused, and EINVAL where a name has a zero byte, which no schema says. */
 
 /* A stream of the batches of the table that is open. What is added to it later isn't in the stream. */
-uint32_t selqumar_arrow_stream(struct selqumar_handle *handle, struct ArrowArrayStream *stream);
+uint32_t selqumar_arrow_stream(const struct selqumar_handle *handle, struct ArrowArrayStream *stream);
 
 /* A stream of the batches of a snapshot, which stays the caller's. */
-uint32_t selqumar_arrow_snapshot_stream(struct selqumar_snapshot *snapshot, struct ArrowArrayStream *stream);
+uint32_t selqumar_arrow_snapshot_stream(const struct selqumar_snapshot *snapshot, struct ArrowArrayStream *stream);
 
 /* ---- For Python's capsules */
 

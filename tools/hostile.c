@@ -471,6 +471,82 @@ static void short_buffer(void) {
   printf("%zu bytes\n", needed);
 }
 
+/* ---- calls that only look */
+
+enum { LOOKERS = 4, LOOKS = 300 };
+
+/* What a thread sees of the table and of a snapshot of it: all texts, one behind the other, and how many rows its stream has. */
+struct looks {
+  const struct selqumar_handle *table;
+  const struct selqumar_snapshot *snapshot;
+  uint8_t text[4096];
+  size_t length;
+  uint32_t statuses;
+};
+
+static void add_text(void *state, uint32_t status, const uint8_t *text, size_t length) {
+  struct looks *looks = (struct looks *)state;
+  (void)status;
+  memcpy(looks->text + looks->length, text, length);
+  looks->length += length;
+}
+
+static void look_once(struct looks *looks) {
+  static const uint8_t query[] = "{\"by\":[\"a\"],\"aggs\":[{\"agg\":\"sum\",\"column\":\"a\"}]}";
+  struct selqumar_snapshot taken = SELQUMAR_CLOSED, copy = SELQUMAR_CLOSED;
+  struct selqumar_handle answer = SELQUMAR_CLOSED;
+  struct selqumar_node nodes[1];
+  uint8_t room[ROOM] = {0};
+  uint32_t rows = 0;
+  size_t count = 0;
+  looks->statuses |= selqumar_open_stats_to(looks->table, 1, add_text, looks) | selqumar_open_export_to(looks->table, add_text, looks) |
+                     selqumar_open_query_to(looks->table, query, sizeof query - 1, add_text, looks) | selqumar_snapshot_open(looks->table, &taken) |
+                     selqumar_snapshot_share(looks->snapshot, &copy) | selqumar_snapshot_stats_to(looks->snapshot, 1, add_text, looks) |
+                     selqumar_snapshot_export_to(looks->snapshot, add_text, looks) |
+                     selqumar_snapshot_query_to(looks->snapshot, query, sizeof query - 1, add_text, looks) |
+                     selqumar_answer(looks->snapshot, query, sizeof query - 1, &answer, room, sizeof room, &count) |
+                     selqumar_lend(looks->snapshot, 0, &rows, nodes, 1, &count) | selqumar_lend_fields(looks->snapshot, nodes, 1, &count) |
+                     selqumar_batch_count(looks->snapshot, &count);
+  add_text(looks, 0, (const uint8_t *)&rows, sizeof rows);
+  selqumar_snapshot_close(&taken);
+  selqumar_snapshot_close(&copy);
+  selqumar_close(&answer);
+}
+
+static void *look(void *state) {
+  struct looks *looks = (struct looks *)state, now = *looks;
+  for (int time = 0; time < LOOKS; time++) {
+    now.length = 0;
+    look_once(&now);
+    looks->statuses |= now.statuses | (now.length != looks->length || memcmp(now.text, looks->text, now.length));
+  }
+  return NULL;
+}
+
+/* Several threads look at one table and one snapshot at once: each sees what one sees alone. */
+static void lookers(void) {
+  struct selqumar_snapshot snapshot = SELQUMAR_CLOSED;
+  struct looks looks[LOOKERS] = {{0}};
+  pthread_t threads[LOOKERS];
+  uint32_t statuses = 0;
+  open_table();
+  append();
+  append();
+  show(selqumar_snapshot_open(&table, &snapshot));
+  for (int place = 0; place < LOOKERS; place++) {
+    looks[place].table = &table;
+    looks[place].snapshot = &snapshot;
+    look_once(&looks[place]);
+    pthread_create(&threads[place], NULL, look, &looks[place]);
+  }
+  for (int place = 0; place < LOOKERS; place++) {
+    pthread_join(threads[place], NULL);
+    statuses |= looks[place].statuses;
+  }
+  printf("%u, and %d\n", (unsigned)statuses, looks[0].length > ROOM);
+  selqumar_snapshot_close(&snapshot);
+}
+
 /* ---- slices */
 
 /* Texts, large texts, lists and dictionaries in slices: so many bytes stay taken, and each slice has its rows. */
@@ -524,7 +600,7 @@ static const struct {
   CASE(texts_that_are_absent), CASE(offsets_past_memory), CASE(lists_past_their_items), CASE(lists_that_begin_past_their_items), CASE(lists_without_a_row),
   CASE(items_below_0), CASE(index_past_dictionary), CASE(dictionary_below_0), CASE(stream_twice), CASE(own_stream_twice), CASE(stream_in_threads),
   CASE(failure_with_a_text), CASE(failure_with_a_long_text), CASE(failure_without_a_text), CASE(failure_for_want_of_memory), CASE(batch_of_a_stream_that_is_refused),
-  CASE(short_buffer), CASE(slices),
+  CASE(short_buffer), CASE(lookers), CASE(slices),
 };
 
 int main(int words, char **word) {

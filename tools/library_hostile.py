@@ -63,6 +63,7 @@ WANTED = {
     "failure_for_want_of_memory": OPENED + "3\n1 batches, 4 rows, 1 released\n",
     "batch_of_a_stream_that_is_refused": OPENED + refused("E4 TooShort") + "0 batches, 0 rows, 1 released\n",
     "short_buffer": OPENED + "2\n31 bytes\n",
+    "lookers": OPENED * 4 + "0, and 1\n",
     "slices": (OPENED + "4096 rows\n") * 4,
 }
 
