@@ -4,7 +4,7 @@ use Rattle.std.specs.List.{flat_map, range_with_len}
 use Rattle.arrays.specs.Prelude.{IntType, bytes_of_number, int32, number_at}
 use Rattle.flat.specs.Parts.{code}
 
-flat_map_range_more : (f : ℕ → List ℕ) (a n j : ℕ) → a + n ≡ j → flat_map f (range_with_len a (n + 1)) ≡ flat_map f (range_with_len a n) ++ f j
+pub flat_map_range_more : (f : ℕ → List ℕ) (a n j : ℕ) → a + n ≡ j → flat_map f (range_with_len a (n + 1)) ≡ flat_map f (range_with_len a n) ++ f j
 flat_map_range_more f a zero j is = append-nil (f a) ∙ ap f (omega (arith, is))
 flat_map_range_more f a (suc n) j is =
     let next : suc n + 1 ≡ suc (n + 1) = omega arith in

@@ -5,5 +5,6 @@ pub mod FieldLemmas
 pub mod RowLemmas
 pub mod ColumnLemmas
 pub mod UniqueLemmas
+pub mod AgainLemmas
 pub mod LentLemmas
 pub mod NamedLemmas

@@ -50,7 +50,7 @@ begins_one (suc levels) (n ∷ behind) f g r s (inr (inr a)) (inr (inr b)) =
     (a.2.field ∙ ap (λ w. field_named n (shape.lists w a.0)) width ∙ ap (λ i. field_named n (shape.lists b.2.width i)) items.0 ∙ sym b.2.field, items.1)
 
 -- no nodes begin with none
-none_begins : (levels : ℕ) (nodes : List Node) (f : FieldShape) (rest : List Node) → [] ≡ nodes → Begins levels nodes f rest → ⊥
+pub none_begins : (levels : ℕ) (nodes : List Node) (f : FieldShape) (rest : List Node) → [] ≡ nodes → Begins levels nodes f rest → ⊥
 none_begins zero nodes f rest is h = h
 none_begins (suc levels) nodes f rest is h = subst (λ (l : List Node). Begins (suc levels) l f rest) (sym is) h
 
