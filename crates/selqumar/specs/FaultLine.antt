@@ -6,6 +6,7 @@ use Rattle.intake.specs.declared.fault.IntakeFault.{IntakeFault}
 use Rattle.intake.specs.declared.fault.IntakeFault.TheVariants.{Column, Flat, Refused}
 use Rattle.embed.specs.AddFaults as column
 use Rattle.embed.specs.Refusals as refusal
+use Rattle.selqumar.specs.FaultText.{intake_fault_text}
 
 -- The fault is want of memory.
 abbrev pub wants_memory : IntakeFault → Bool
@@ -16,4 +17,4 @@ wants_memory fault = false
 
 -- The text is the line of a fault that stands, and isn't want of memory.
 abbrev pub IsFaultLine : (IntakeFault → Type 0) → List ℕ → Type 0
-IsFaultLine stands text = (fault : IntakeFault) × (wants_memory fault ≡ false) × stands fault × (what : List ℕ) × (text ≡ message what)
+IsFaultLine stands text = (fault : IntakeFault) × (wants_memory fault ≡ false) × stands fault × (text ≡ message (intake_fault_text fault))

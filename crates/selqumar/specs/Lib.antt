@@ -1,5 +1,6 @@
 -- The words of this crate's contracts.
 pub mod FaultLine
+pub mod FaultText
 pub mod Follows
 pub mod Handle
 pub mod Lent

@@ -1,9 +1,11 @@
 //! Faults of tables that are filled, as lines in the caller's buffer.
-ghost use Rattle.std.specs.Prelude.{◌≡◌, ◌≢◌, ◌≤◌, Err, IfOk, IsErr, IsOk, List, OnOk, false, string_bytes, ℕ};
+ghost use Rattle.std.specs.Prelude.{◌≡◌, ◌≢◌, ◌≤◌, Err, IfOk, IsErr, IsOk, OnOk, false, string_bytes};
 ghost use Rattle.embed.specs.Prelude.{message};
 ghost use Rattle.selqumar.specs.Status.{IsNothing, Leaves, Never};
 ghost use Rattle.selqumar.specs.FaultLine.{IsFaultLine, wants_memory};
+ghost use Rattle.selqumar.specs.FaultText.{intake_fault_text};
 
+use crate::fault_text::line_of;
 use crate::status::{FAULT, NO_MEMORY, done, put_items};
 use arrays::NoMemory;
 use embed::{AddFault, Refusal};
@@ -39,25 +41,21 @@ pub(crate) fn put_fault(
     ensures refused { result ≢ 0 }
     ensures leaves { Leaves Never (IsFaultLine (λ f. f ≡ fault)) result out.old out.new needed.old needed.new }
 {
-    match line_of(alloc, fault) {
+    match told_line(alloc, fault) {
         Ok(line) => put_items(line.as_bytes(), FAULT, out, needed),
         Err(NoMemory) => NO_MEMORY,
     }
 }
 
-/// The line of a fault. That memory ran out has one that takes none.
-fn line_of(alloc: Global, fault: IntakeFault) -> Result<String, NoMemory>
-    ensures line { IfOk result (λ text. (what : List ℕ) × (string_bytes text ≡ message what)) }
+/// The line of a fault, if it isn't want of memory, which takes none.
+fn told_line(alloc: Global, fault: IntakeFault) -> Result<String, NoMemory>
+    ensures line { IfOk result (λ text. string_bytes text ≡ message (intake_fault_text fault)) }
     ensures other { OnOk result (wants_memory fault ≡ false) }
 {
     if wants_memory(fault) {
         return Err(NoMemory);
     }
-    let what = format!(in alloc; "{fault}")?;
-    let mut line = String::from_str(alloc, "arrowtab: ")?;
-    line.push_str(&what)?;
-    line.push_str("\n")?;
-    Ok(line)
+    line_of(alloc, fault)
 }
 
 /// Whether a fault is want of memory.

@@ -18,6 +18,7 @@ ghost use Rattle.selqumar.specs.Status.{IsLine, IsValid, Leaves};
 mod boxed;
 mod columns;
 mod fault_line;
+mod fault_text;
 mod filling;
 mod handle;
 mod opened;
