@@ -14,7 +14,7 @@ use Rattle.job.specs.declared.jobs.Output.{Output}
 use Rattle.job.specs.declared.jobs.QuerySource.{QuerySource}
 use Rattle.table.specs.Prelude.{Contents, History, QueryText, add_fault, named}
 use Rattle.table.specs.declared.add_fault.AddFault.{AddFault}
-use Rattle.arrowtab.specs.Prelude.{Answers, AreRead, Explains, Holds, Inputs, IsColumn, IsColumnRefused, IsFileRefused, IsLoaded, IsStopped, IsUnprinted, IsUnread, IsWanted, IsWith, OfJob, Prints, PrintsNothing, PrintsWanted, RefusesColumn, column_text, fields_with, history_with, listed}
+use Rattle.arrowtab.specs.Prelude.{Answers, AreLoaded, AreRead, Explains, Holds, Inputs, IsColumn, IsColumnRead, IsColumnRefused, IsColumnUnread, IsFileRefused, IsFirst, IsLoaded, IsOfFiles, IsQueryRead, IsStopped, IsUnprinted, IsUnread, IsWanted, IsWith, OfJob, Prints, PrintsNothing, PrintsWanted, RefusesColumn, column_text, fields_with, history_with, listed}
 use Rattle.reports.specs.Prelude.{FileBatch, IsUnreadQuery, OrMemory, batch_of, batches_with_fields, table_fields}
 use Rattle.arrowtab.specs.declared.wanted.Wanted.{Wanted}
 use Rattle.arrowtab.specs.declared.wanted.Wanted.TheVariants.{Groups}
@@ -57,6 +57,14 @@ asks_query (Query source form) wanted query output is same =
     let one : is.0 ≡ query = cc asked in
     (source, cc asked, subst (λ q. ReadsQueryText (text_of_query source) (named q)) one is.2)
 
+pub query_read : (command : Command) (wanted : Wanted) → IsWanted command wanted → IsQueryRead command
+query_read command.Stats wanted is = tt
+query_read command.Schema wanted is = tt
+query_read command.Validate wanted is = tt
+query_read (command.Head count) wanted is = tt
+query_read command.Export wanted is = tt
+query_read (Query source output) wanted is = (named is.0, is.2)
+
 -- ---- a column that is refused
 
 refuses_column : (job : Job) (text : Option (List ℕ)) (f : FieldShape) (fault : AddFault) → column_text job ≡ text → IsColumn text (Some f) → add_fault f ≡ Some fault → RefusesColumn job fault
@@ -69,6 +77,46 @@ column_explains job inputs before after column fault given (inl is) = subst (Exp
 column_explains job inputs before after column fault given (inr is) =
     subst (Explains job inputs before after) (sym is.3) (refuses_column job (column_text job) is.0 is.1 refl (subst (IsColumn (column_text job)) is.2 given) is.4)
 
+-- ---- the fault of a file
+
+pub reading_explains : (job : Job) (inputs : Inputs) (before after : List ℕ) (fault : RunFault) → OrMemory (IsOfFiles job.workers inputs before after) fault → Explains job inputs before after fault
+reading_explains job inputs before after fault (inl is) = subst (Explains job inputs before after) (sym is) tt
+reading_explains job inputs before after fault (inr is) = subst (Explains job inputs before after) (sym is.2) is.3
+
+-- ---- what comes before a fault
+
+module _ (job : Job) (inputs : Inputs) (before after : List ℕ) (still : Type 0) where
+  pub query_first : still → (fault : RunFault) → OrMemory (IsUnread job.command) fault → IsFirst job inputs before after still fault
+  query_first untouched fault (inl is) = subst (IsFirst job inputs before after still) (sym is) tt
+  query_first untouched fault (inr is) = subst (IsFirst job inputs before after still) (sym is.1) untouched
+
+  module _ (wanted : Wanted) (asked : IsWanted job.command wanted) where
+    pub column_first : still → (fault : RunFault) → OrMemory (IsColumnUnread job) fault → IsFirst job inputs before after still fault
+    column_first untouched fault (inl is) = subst (IsFirst job inputs before after still) (sym is) tt
+    column_first untouched fault (inr is) = subst (IsFirst job inputs before after still) (sym is.1) (query_read job.command wanted asked, untouched)
+
+    pub reading_first : (column : Option FieldShape) → IsColumn (column_text job) column → (fault : RunFault) → OrMemory (IsOfFiles job.workers inputs before after) fault
+        → IsFirst job inputs before after still fault
+    reading_first column given fault (inl is) = subst (IsFirst job inputs before after still) (sym is) tt
+    reading_first column given fault (inr is) = subst (IsFirst job inputs before after still) (sym is.2) (query_read job.command wanted asked, (column, given), is.4)
+
+    pub loading_first : (column : Option FieldShape) → IsColumn (column_text job) column → after ≡ before → (files : List File) (fault : RunFault) → OrMemory (IsFileRefused job.workers files) fault
+        → IsFirst job inputs before after still fault
+    loading_first column given unfailed files fault (inl is) = subst (IsFirst job inputs before after still) (sym is) tt
+    loading_first column given unfailed files fault (inr is) = subst (IsFirst job inputs before after still) (sym is.3) (query_read job.command wanted asked, (column, given), unfailed)
+
+    pub adding_first : after ≡ before → AreLoaded job.workers inputs → (column : Option FieldShape) (fault : RunFault) → OrMemory (IsColumnRefused column) fault → IsFirst job inputs before after still fault
+    adding_first unfailed loaded column fault (inl is) = subst (IsFirst job inputs before after still) (sym is) tt
+    adding_first unfailed loaded column fault (inr is) = subst (IsFirst job inputs before after still) (sym is.3) (query_read job.command wanted asked, loaded, unfailed)
+
+  answer_first : after ≡ before → (wanted : Wanted) (fields : List FieldShape) (h : History) (fault : RunFault) → OrMemory (IsUnprinted wanted fields h) fault → IsFirst job inputs before after still fault
+  answer_first unfailed wanted fields h fault (inl is) = subst (IsFirst job inputs before after still) (sym is) tt
+  answer_first unfailed wanted fields h fault (inr is) = subst (IsFirst job inputs before after still) (sym is.3.1) unfailed
+
+  pub err_first : {A : Type 0} (wanted : Wanted) (fields : List FieldShape) (h : History) (r : Result A RunFault) → after ≡ before → IfErr r (OrMemory (IsUnprinted wanted fields h))
+      → IfErr r (IsFirst job inputs before after still)
+  err_first wanted fields h r unfailed why = IfErr-weaker r _ _ (answer_first unfailed wanted fields h) why
+
 -- ---- over the files
 
 module _ (job : Job) (inputs : Inputs) (files : List File) (are_read : AreRead inputs (data_of files)) (kept : AreKept files) where
@@ -80,6 +128,14 @@ module _ (job : Job) (inputs : Inputs) (files : List File) (are_read : AreRead i
   loading_explains before after fault (inl is) = subst (Explains job inputs before after) (sym is) tt
   loading_explains before after fault (inr is) =
       subst (Explains job inputs before after) (sym is.3) (record { files = data_of files; read = are_read; stopped = of_data (λ ls fs. IsStopped job.workers ls fs is.0 is.1 is.2) is.4 })
+
+  pub all_loaded : (loaded : Contents) → Holds job.workers files loaded → AreLoaded job.workers inputs
+  all_loaded loaded holds = record {
+    files = data_of files;
+    read = are_read;
+    history = loaded.history;
+    loaded = of_data (λ ls fs. IsLoaded job.workers ls fs loaded.history) holds.loaded;
+  }
 
   -- ---- the command's output
 

@@ -20,6 +20,10 @@ IsColumn None (Some f) = ⊥
 IsColumn (Some text) None = ⊥
 IsColumn (Some text) (Some f) = IsFieldText text f
 
+-- The text of the job's column is read, where it has one.
+abbrev pub IsColumnRead : Job → Type 0
+IsColumnRead job = (column : Option FieldShape) × IsColumn (column_text job) column
+
 -- A column of the field may be added.
 abbrev pub IsAllowed : Option FieldShape → Type 0
 IsAllowed column = IfSome column (λ f. add_fault f ≡ None)

@@ -1,18 +1,18 @@
 -- What the program writes, and why it refuses: stated over the bytes that its sources tell.
-use Rattle.std.specs.Prelude.{◌≡◌, ◌⊎◌, ◌<◌, ℕ, List, map, Option, Some, IfSome, slice_get, ⊤}
+use Rattle.std.specs.Prelude.{◌≡◌, ◌⊎◌, ◌<◌, ℕ, List, map, Option, Some, IfSome, slice_get, take, ⊤}
 use Rattle.std.specs.List.{AllZip}
 use Rattle.std.specs.Io.KnownBytes.{Appends, Keeps}
 use Rattle.ends.specs.Prelude.{AppendsFront, output_line}
 use Rattle.arrays.specs.Prelude.{FieldShape}
-use Rattle.table.specs.Prelude.{History, QueryFault}
+use Rattle.table.specs.Prelude.{History, QueryFault, QueryShape}
 use Rattle.job.specs.Jobs.{names_of, text_of_query}
 use Rattle.job.specs.declared.jobs.Command.{Command}
 use Rattle.job.specs.declared.jobs.Command.TheVariants.{Query}
 use Rattle.job.specs.declared.jobs.Job.{Job}
 use Rattle.job.specs.declared.jobs.Output.{Output}
 use Rattle.job.specs.declared.jobs.QuerySource.{QuerySource}
-use Rattle.arrow_json.specs.Prelude.{BytesFault, FileData, JsonFaultKind, QueryBytesFault, Reads, Step}
-use Rattle.arrowtab.specs.Column.{FailedColumn, IsAllowed, IsColumn, RefusesColumn, column_text, fields_with, history_with}
+use Rattle.arrow_json.specs.Prelude.{BytesFault, FileData, JsonFaultKind, QueryBytesFault, Reads, ReadsQueryText, Step}
+use Rattle.arrowtab.specs.Column.{FailedColumn, IsAllowed, IsColumn, IsColumnRead, RefusesColumn, column_text, fields_with, history_with}
 use Rattle.arrowtab.specs.Output.{Prints, PrintsNothing}
 use Rattle.arrowtab.specs.Loaded.{IsLoaded, IsStopped}
 use Rattle.arrowtab.specs.TookFault.{IsLineOf}
@@ -100,10 +100,6 @@ ExplainsFile workers inputs before after file CannotRead = FailedRead before aft
 ExplainsFile workers inputs before after file (Json f) = FailedFile inputs file f.kind f.path
 ExplainsFile workers inputs before after file (Refused number refusal) = Refuses workers inputs file number refusal
 
--- It is the fault of a file, and has a cause.
-abbrev pub IsOfFiles : ℕ → Inputs → List ℕ → List ℕ → RunFault → Type 0
-IsOfFiles workers inputs before after fault = (file : ℕ) × (f : FileFault) × (fault ≡ OfFile file f) × ExplainsFile workers inputs before after file f
-
 -- The cause of a fault of a job's column.
 abbrev pub ExplainsColumn : Job → ColumnFault → Type 0
 ExplainsColumn job (Unread f) = FailedColumn job f.kind f.path
@@ -117,9 +113,49 @@ Explains job inputs before after (QueryUnread f) = FailedQuery job.command f.kin
 Explains job inputs before after (QueryRefused f) = RefusesQuery job inputs f
 Explains job inputs before after (OfColumn f) = ExplainsColumn job f
 
--- Why a run ends with status 1, and the line that the error sink then took: that sink failed; the output failed; or a fault has a cause, and the output is untouched.
-abbrev pub Excuse : Job → Inputs → List ℕ → List ℕ → ℕ → ℕ → ℕ → ℕ → Option (List ℕ) → Option (List ℕ) → Type 0
-Excuse job inputs before after out_old out_new err_old err_new old new =
+-- ---- which fault it tells: the first that it meets. It reads the query, the column's field and each source in order, loads the files, adds the column and answers the query.
+
+-- The command's query is read, where it has one.
+abbrev pub IsQueryRead : Command → Type 0
+IsQueryRead (Query source output) = (query : QueryShape (List ℕ)) × ReadsQueryText (text_of_query source) query
+IsQueryRead command = ⊤
+
+-- Each source before this place gives a file, and none of them failed in this call.
+pub record GiveFiles (inputs : Inputs) (before after : List ℕ) (place : ℕ) : Type 0 where
+  pub files : List FileData
+  pub read : AreRead (take place inputs) files
+  pub unfailed : take place after ≡ take place before
+
+-- All sources give files, which so many workers load.
+pub record AreLoaded (workers : ℕ) (inputs : Inputs) : Type 0 where
+  pub files : List FileData
+  pub read : AreRead inputs files
+  pub history : History
+  pub loaded : IsLoaded workers (map batches_with_fields files) (table_fields files) history
+
+-- What is read before the fault of a file is met: the sources before it; no source failed where a batch is refused.
+abbrev pub IsFirstOfFiles : Inputs → List ℕ → List ℕ → ℕ → FileFault → Type 0
+IsFirstOfFiles inputs before after file (Refused number refusal) = after ≡ before
+IsFirstOfFiles inputs before after file fault = GiveFiles inputs before after file
+
+-- Nothing that comes before this fault has one. What isn't touched before any source is read stays as it is (`still`). Want of memory may come at any point.
+abbrev pub IsFirst : Job → Inputs → List ℕ → List ℕ → Type 0 → RunFault → Type 0
+IsFirst job inputs before after still NoMemory = ⊤
+IsFirst job inputs before after still (QueryUnread f) = still
+IsFirst job inputs before after still (OfColumn (Unread f)) = IsQueryRead job.command × still
+IsFirst job inputs before after still (OfFile file fault) = IsQueryRead job.command × IsColumnRead job × IsFirstOfFiles inputs before after file fault
+IsFirst job inputs before after still (OfColumn (column.Refused fault)) = IsQueryRead job.command × AreLoaded job.workers inputs × (after ≡ before)
+IsFirst job inputs before after still (QueryRefused f) = after ≡ before
+
+-- It is the fault of a file, has a cause, and is the first.
+abbrev pub IsOfFiles : ℕ → Inputs → List ℕ → List ℕ → RunFault → Type 0
+IsOfFiles workers inputs before after fault =
+    (file : ℕ) × (f : FileFault) × (fault ≡ OfFile file f) × ExplainsFile workers inputs before after file f × IsFirstOfFiles inputs before after file f
+
+-- Why a run ends with status 1, and the line that the error sink then took: that sink failed; the output failed; or a fault has a cause and is the first, and the output is untouched.
+abbrev pub Excuse : Job → Inputs → List ℕ → List ℕ → Type 0 → ℕ → ℕ → ℕ → ℕ → Option (List ℕ) → Option (List ℕ) → Type 0
+Excuse job inputs before after still out_old out_new err_old err_new old new =
     (err_old < err_new)
     ⊎ (((out_old < out_new) × Appends old new output_line)
-    ⊎ ((fault : RunFault) × (line : List ℕ) × Explains job inputs before after fault × IsLineOf (names_of job.names.items) fault line × (out_new ≡ out_old) × Appends old new line))
+    ⊎ ((fault : RunFault) × (line : List ℕ) × Explains job inputs before after fault × IsFirst job inputs before after still fault
+    × IsLineOf (names_of job.names.items) fault line × (out_new ≡ out_old) × Appends old new line))

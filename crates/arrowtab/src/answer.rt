@@ -1,7 +1,7 @@
 //! The output of a job, or why there is none.
-ghost use Rattle.std.specs.Prelude.{◌^◌, ◌-◌, ◌<◌, ◌≤◌, All, IfErr, IfOk, length, map, string_bytes};
+ghost use Rattle.std.specs.Prelude.{◌≡◌, ◌^◌, ◌-◌, ◌<◌, ◌≤◌, All, IfErr, IfOk, OnOk, length, map, string_bytes};
 ghost use Rattle.reports.specs.OrMemory.{OrMemory};
-ghost use Rattle.arrowtab.specs.Run.{Answers, Explains};
+ghost use Rattle.arrowtab.specs.Run.{Answers, Explains, IsFirst};
 ghost use Rattle.arrowtab.specs.Wanted.{IsUnprinted, PrintsWanted};
 
 use crate::column::{column_of, with_column};
@@ -31,8 +31,11 @@ pub(crate) fn answer<W: Wait + Sync, T: Threads + Sync, S: Source>(
     requires few { job.now.workers ≤ 64 }
     requires room { All (λ s. S.failures s < 2 ^ 64 - 1) sources.old }
     ensures ok { IfOk result (λ text. Answers job.now (map S.remaining sources.old) (string_bytes text)) }
+    ensures unfailed { OnOk result (map S.failures sources.new ≡ map S.failures sources.old) }
     ensures err { IfErr result (Explains job.now (map S.remaining sources.old)
         (map S.failures sources.old) (map S.failures sources.new)) }
+    ensures first { IfErr result (IsFirst job.now (map S.remaining sources.old)
+        (map S.failures sources.old) (map S.failures sources.new) (sources.new ≡ sources.old)) }
 {
     let wanted = wanted_of(alloc, &job.command)?;
     let column = column_of(alloc, job)?;

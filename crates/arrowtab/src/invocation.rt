@@ -35,17 +35,18 @@ pub fn run<W: Wait + Sync, T: Threads + Sync, S: Source, O: Sink, E: Sink>(
     requires err_room { E.failures err.old < 2 ^ 64 - 1 }
     ensures status { result < 2 }
 
-    // Status 0: all of the output was written, and nothing was reported.
+    // Status 0: all of the output was written, no source failed, and nothing was reported.
     ensures wrote { result ≡ 0 → Wrote job.now (map S.remaining sources.old) (O.taken out.old) (O.taken out.new) }
+    ensures unfailed { result ≡ 0 → map S.failures sources.new ≡ map S.failures sources.old }
     ensures silent { result ≡ 0 → err.new ≡ err.old }
 
     // Status 1: none of it was, or a beginning of it where the output failed ..
     ensures quiet { result ≡ 1 → WroteFront job.now (map S.remaining sources.old)
         (O.taken out.old) (O.taken out.new) (O.failures out.old) (O.failures out.new) }
 
-    // .. and there is a cause, whose line the error sink took.
+    // .. and there is a cause, the first that was met, whose line the error sink took.
     ensures excused { result ≡ 1 → Excuse job.now (map S.remaining sources.old)
-        (map S.failures sources.old) (map S.failures sources.new)
+        (map S.failures sources.old) (map S.failures sources.new) (sources.new ≡ sources.old)
         (O.failures out.old) (O.failures out.new) (E.failures err.old) (E.failures err.new)
         (E.taken err.old) (E.taken err.new) }
 {

@@ -1,7 +1,7 @@
 //! A query that is in a file, which is read before any other.
-ghost use Rattle.std.specs.Prelude.{◌≡◌, ◌^◌, ◌-◌, ◌<◌, IfNone, IfSome, IsSome};
+ghost use Rattle.std.specs.Prelude.{◌≡◌, ◌^◌, ◌-◌, ◌<◌, IfNone, IfSome, IsSome, None};
 ghost use Rattle.arrowtab.specs.QueryFile.{HasRead, UnreadQuery};
-ghost use Rattle.job.specs.Jobs.{IsReady};
+ghost use Rattle.job.specs.Jobs.{IsReady, file_of_query};
 
 use crate::tell::tell_unread;
 use ends::{Sink, Source, SourceFault, read_whole, tell_memory};
@@ -22,6 +22,8 @@ pub fn read_query_file<S: Source, E: Sink>(
     requires err_room { E.failures err.old < 2 ^ 64 - 1 }
     ensures read { IfSome result (HasRead job (S.remaining source.old)) }
     ensures ready { IsReady job → IfSome result IsReady }
+    ensures untouched { file_of_query job.command ≡ None → source.new ≡ source.old }
+    ensures counted { IfSome result (λ _. S.failures source.new ≡ S.failures source.old) }
     ensures silent { IsSome result → err.new ≡ err.old }
     ensures unread { IfNone result (UnreadQuery job (S.failures source.old) (S.failures source.new)
         (E.failures err.old) (E.failures err.new) (E.taken err.old) (E.taken err.new)) }

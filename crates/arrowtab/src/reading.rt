@@ -1,5 +1,5 @@
 //! The files of a job, window after window.
-ghost use Rattle.std.specs.Prelude.{◌≡◌, ◌⊎◌, ◌^◌, ◌-◌, ◌<◌, All, IfErr, IfOk, map};
+ghost use Rattle.std.specs.Prelude.{◌≡◌, ◌⊎◌, ◌^◌, ◌-◌, ◌<◌, All, IfErr, IfOk, OnOk, map};
 ghost use Rattle.std.specs.List.{AllByRecursion};
 ghost use Rattle.arrow_json.specs.Prelude.{AreUnder, file_of};
 ghost use Rattle.reports.specs.OrMemory.{OrMemory};
@@ -23,6 +23,7 @@ pub(crate) fn read_files<T: Threads + Sync, S: Source>(
     requires { All (λ s. S.failures s < 2 ^ 64 - 1) sources.old }
     ensures read { IfOk result (λ files. AreRead (map S.remaining sources.old) (map file_of files.items)) }
     ensures under { IfOk result (λ files. AllByRecursion (λ f. AreUnder f.fields f.batches) files.items) }
+    ensures unfailed { OnOk result (map S.failures sources.new ≡ map S.failures sources.old) }
     ensures err { IfErr result (OrMemory (IsOfFiles workers (map S.remaining sources.old) (map S.failures sources.old) (map S.failures sources.new))) }
 {
     let mut files = Vec::new(alloc);

@@ -41,9 +41,13 @@ IsAnswered query texts text = (shape : QueryShape (List ℕ)) × ReadsQueryText 
 abbrev pub IsQueryRefused : List ℕ → List (List ℕ) → RunFault → Type 0
 IsQueryRefused query texts fault = (shape : QueryShape (List ℕ)) × ReadsQueryText query shape × OfTable texts (λ fields h. IsUnanswered shape fields h fault)
 
--- The fault of a query over files: of its bytes, over their table, or of the files.
+-- The bytes are read as a query.
+abbrev pub IsQueryText : List ℕ → Type 0
+IsQueryText query = (shape : QueryShape (List ℕ)) × ReadsQueryText query shape
+
+-- The fault of a query over files: of its bytes; over their table; or of the files, where the bytes are read.
 abbrev pub StopsQuery : List ℕ → List (List ℕ) → RunFault → Type 0
-StopsQuery query texts fault = IsUnreadQuery query fault ⊎ (IsQueryRefused query texts fault ⊎ StopsTexts texts fault)
+StopsQuery query texts fault = IsUnreadQuery query fault ⊎ (IsQueryRefused query texts fault ⊎ (IsQueryText query × StopsTexts texts fault))
 
 -- The name of a fault's file, if it is one of a file: its number, from 0.
 abbrev pub file_name : RunFault → List ℕ

@@ -6,7 +6,7 @@ pub use Rattle.reports.specs.Exported.{exported}
 pub use Rattle.table.specs.Lawful.{IsStored, NamesFronts}
 pub use Rattle.reports.specs.Line.{message}
 pub use Rattle.embed.specs.Loaded.{AddsAll, HoldsFiles, added, all_batches}
-pub use Rattle.embed.specs.Output.{AreLoadable, IsAnswered, IsExport, IsQueryRefused, IsSchema, IsStats, OfTable, StopsQuery, line_of_fault}
+pub use Rattle.embed.specs.Output.{AreLoadable, IsAnswered, IsExport, IsQueryRefused, IsQueryText, IsSchema, IsStats, OfTable, StopsQuery, line_of_fault}
 pub use Rattle.embed.specs.Refused.{IsBatchRefused, StopsFiles, StopsReading, StopsTexts}
 pub use Rattle.reports.specs.declared.run_fault.RunFault.{RunFault}
 pub use Rattle.reports.specs.declared.run_fault.RunFault.TheVariants.{NoMemory}

@@ -1,9 +1,10 @@
 -- One worker's table, as the library's.
-use Rattle.std.proofs.Common.{zero, suc, ◌%◌, take, option_map, ◌≡◌, ◌∙◌, ℕ, ◌<◌, List, [], ◌∷◌, ◌++◌, map, None, Some, IfSome, Option, ap, inl, inr, sym, refl, subst, arith}
+use Rattle.std.proofs.Common.{◌%◌, take, option_map, ◌≡◌, ◌∙◌, ℕ, ◌<◌, List, [], ◌∷◌, ◌++◌, map, None, Some, IfSome, Option, ap, inl, inr, sym, refl, subst, arith}
+use Rattle.std.proofs.lemmas.List.{take-map}
 use Rattle.std.proofs.lemmas.Option.{slice_get-map}
-use Rattle.std.specs.Prelude.{All}
+use Rattle.std.specs.Prelude.{All, ⊤}
 use Rattle.std.specs.List.{AllByRecursion, AllZip, flat_map}
-use Rattle.arrowtab.specs.Prelude.{Answers, AreRead, Explains, FieldShape, FileBatch, FileData, History, IsColumn, IsLoaded, IsStopped, OfJob, OrMemory, Prints, PrintsNothing, Reads, Refusal, Refuses, RefusesGroups, RunFault, added_by, batch_tables, batches_with_fields, column_text, difference, planned, table_fields}
+use Rattle.arrowtab.specs.Prelude.{Answers, AreRead, Explains, FieldShape, FileBatch, FileData, History, IsColumn, IsFirst, IsLoaded, IsQueryRead, IsStopped, OfJob, OrMemory, Prints, PrintsNothing, Reads, Refusal, Refuses, RefusesGroups, RunFault, added_by, batch_tables, batches_with_fields, column_text, difference, planned, table_fields}
 use Rattle.job.specs.Jobs.{text_of_query}
 use Rattle.job.specs.declared.jobs.Command.{Command}
 use Rattle.job.specs.declared.jobs.Command.TheVariants as command
@@ -95,16 +96,9 @@ module _ (job : Job) (texts : List (List ℕ)) (text : List ℕ) (one : job.work
 
 -- ---- what stands against it
 
--- a front of the files has a front of their batches
-take_mapped : (n : ℕ) (files : List FileData) → take n (map batches_with_fields files) ≡ map batches_with_fields (take n files)
-take_mapped zero [] = refl
-take_mapped zero (f ∷ files) = refl
-take_mapped (suc n) [] = refl
-take_mapped (suc n) (f ∷ files) = ap (λ l. batches_with_fields f ∷ l) (take_mapped n files)
-
 planned_front : (file : ℕ) (files : List FileData) → planned (take file (map batches_with_fields files)) 1 0 ≡ all_batches (take file files)
 planned_front file files =
-    planned_alone (take file (map batches_with_fields files)) ∙ ap (flat_map (λ (bs : List FileBatch). bs)) (take_mapped file files) ∙ joined (take file files)
+    planned_alone (take file (map batches_with_fields files)) ∙ ap (flat_map (λ (bs : List FileBatch). bs)) (take-map batches_with_fields file files) ∙ joined (take file files)
 
 stopped_alone : (files : List FileData) (file number : ℕ) (e : Refusal) → IsBatchRefused files file number e → IsStopped 1 (map batches_with_fields files) (table_fields files) file number e
 stopped_alone files file number e is =
@@ -155,4 +149,31 @@ module _ (job : Job) (texts : List (List ℕ)) (before after : List ℕ) (one : 
   query_stops_alone source bare form same fault (inr (inl is)) =
       subst (Explains job (map (λ t. Some t) texts) before after) (sym is.1) (record { source = source; output = form; asks = same; stands = is.2 })
   query_stops_alone source bare form same fault (inr (inr (inl is))) = refused_alone source bare form same fault is
-  query_stops_alone source bare form same fault (inr (inr (inr is))) = stops_alone fault (inr is)
+  query_stops_alone source bare form same fault (inr (inr (inr is))) = stops_alone fault (inr is.1)
+
+-- ---- and is the first
+
+pub first_alone : (job : Job) (texts : List (List ℕ)) (counts : List ℕ) → column_text job ≡ None → IsQueryRead job.command → (fault : RunFault) → OrMemory (StopsTexts texts) fault
+    → IsFirst job (map (λ t. Some t) texts) counts counts ⊤ fault
+first_alone job texts counts bare query fault (inl is) = subst (IsFirst job (map (λ t. Some t) texts) counts counts ⊤) (sym is) tt
+first_alone job texts counts bare query fault (inr (inl is)) =
+    let text = is.3 in
+    subst (IsFirst job (map (λ t. Some t) texts) counts counts ⊤) (sym is.2) (
+      query,
+      (None, subst (λ c. IsColumn c None) (sym bare) tt),
+      record {
+        files = text.files;
+        read = subst (λ inputs. AreRead inputs text.files) (sym (take-map (λ (t : List ℕ). Some t) is.0 texts)) (inputs_read (take is.0 texts) text.files text.read);
+        unfailed = refl;
+      },
+    )
+first_alone job texts counts bare query fault (inr (inr is)) =
+    subst (IsFirst job (map (λ t. Some t) texts) counts counts ⊤) (sym is.2.3) (query, (None, subst (λ c. IsColumn c None) (sym bare) tt), refl)
+
+pub query_first_alone : (job : Job) (texts : List (List ℕ)) (counts : List ℕ) (source : QuerySource) → column_text job ≡ None → (form : Output) → job.command ≡ command.Query source form
+    → (fault : RunFault) → OrMemory (StopsQuery (text_of_query source) texts) fault → IsFirst job (map (λ t. Some t) texts) counts counts ⊤ fault
+query_first_alone job texts counts source bare form same fault (inl is) = subst (IsFirst job (map (λ t. Some t) texts) counts counts ⊤) (sym is) tt
+query_first_alone job texts counts source bare form same fault (inr (inl is)) = subst (IsFirst job (map (λ t. Some t) texts) counts counts ⊤) (sym is.1) tt
+query_first_alone job texts counts source bare form same fault (inr (inr (inl is))) = subst (IsFirst job (map (λ t. Some t) texts) counts counts ⊤) (sym is.2.is.1) refl
+query_first_alone job texts counts source bare form same fault (inr (inr (inr is))) =
+    first_alone job texts counts bare (subst IsQueryRead (sym same) is.0) fault (inr is.1)

@@ -21,6 +21,6 @@ tell-requires-clause-named g c =
 
 pub returns-clause-excused : goal.returns-clause-excused
 returns-clause-excused g c = λ _.
-    excuse_reported c.args.job.now _ _ _ _ _ _ _ _ c.in-Err.fault
+    excuse_reported c.args.job.now _ _ _ _ _ _ _ _ _ c.in-Err.fault
     (subst (λ (names : List (String Global)). TookFault (names_of names) c.in-Err.fault (g.E.Sink.failures c.args.err.now) (g.E.Sink.failures c.tell.new.err) (g.E.Sink.taken c.args.err.now) (g.E.Sink.taken c.tell.new.err)) c.deref.ensures.value c.tell.ensures)
-    c.in-Err.ensures.err
+    c.in-Err.ensures.err c.in-Err.ensures.first

@@ -1,7 +1,7 @@
 use Rattle.std.proofs.Common.{◌+◌, ◌-◌, ◌<◌, ◌^◌, [], Global, List, Vec, arith, map, slice_set, subst, sym, ℕ}
 use Rattle.std.proofs.lemmas.Result.{err_from_is_err_and}
 use Rattle.arrays.specs.File.{File}
-use Rattle.arrowtab.proofs.ReadLemmas.{ReadSoFar, ReadSoFar-added, ReadSoFar-none, ReadSoFar-pushed, ReadSoFar-whole, all_at, all_under, counted, parsing_stops, source_stops}
+use Rattle.arrowtab.proofs.ReadLemmas.{ReadSoFar, ReadSoFar-added, ReadSoFar-none, ReadSoFar-pushed, ReadSoFar-whole, all_at, all_under, counted, parsing_stops, source_stops, unfailed_before, unfailed_still}
 use Rattle.arrowtab.proofs.reading.read_files.Goals as goal
 use Rattle.arrowtab.proofs.reading.read_files.Goals.{then-len-workers+in_ok-add_files, else-len-workers}
 
@@ -23,12 +23,14 @@ pub returns-in_err-add_files-in-Err-clause-err : goal.returns-in_err-add_files-i
 returns-in_err-add_files-in-Err-clause-err g c =
     let at = c.loop-number in
     let p = err_from_is_err_and c.from_residual-in_err-add_files-in-Err.result c.from_residual-in_err-add_files-in-Err.ensures.1 in
-    rw (p.1, p.2) (parsing_stops g.S.Source.remaining g.S.Source.failures c.args.sources.now at.sources at.files.items _ at.number at.invariant _ _ _ c.in_err-add_files-in-Err.ensures.err)
+    rw (p.1, p.2)
+    (parsing_stops g.S.Source.remaining g.S.Source.failures c.args.sources.now at.sources at.files.items _ at.number at.invariant _ _ _
+    (unfailed_before g.S.Source.remaining g.S.Source.failures c.args.sources.now at.sources at.files.items _ at.number at.invariant c.read_whole.new.source) c.in_err-add_files-in-Err.ensures.err)
 
 pub returns-in-Err-clause-err : goal.returns-in-Err-clause-err
 returns-in-Err-clause-err g c =
     let at = c.loop-number in
-    source_stops g.S.Source.remaining g.S.Source.failures c.args.sources.now at.sources at.files.items _ at.number at.invariant _ c.index-sources-number.result c.read_whole.new.source c.in-Err.fault c.source_fault.result
+    source_stops g.S.Source.remaining g.S.Source.failures c.args.sources.now at.sources at.files.items _ at.number at.invariant _ c.index-sources-number.result c.read_whole.new.source _ c.in_ok-add_files-in-Err.ensures.ok c.in-Err.fault c.source_fault.result
     (omega (arith, c.loop-number-test.true, at.invariant.same)) (counted (Vec ℕ Global) _ _ c.in-Err.fault c.in-Err.ensures.count) c.source_fault.ensures
 
 -- ---- a window that is full
@@ -38,15 +40,17 @@ returns-in_err-add_files-clause-err g c =
     let at = c.loop-number in
     let p = err_from_is_err_and c.from_residual-in_err-add_files.result c.from_residual-in_err-add_files.ensures.1 in
     let next = ReadSoFar-pushed g.S.Source.remaining g.S.Source.failures c.args.sources.now (λ t. t.items) at.sources at.files.items at.texts.items c.push.new.self.items at.number c.index-sources-number.result c.read_whole.new.source c.in-Ok.text at.invariant
-    (omega (arith, c.loop-number-test.true, at.invariant.same)) c.in_ok-push-in-Ok.ensures.items c.in-Ok.ensures.whole in
-    rw (p.1, p.2) (parsing_stops g.S.Source.remaining g.S.Source.failures c.args.sources.now _ at.files.items _ (at.number + 1) next _ _ _ c.in_err-add_files.ensures.err)
+    (omega (arith, c.loop-number-test.true, at.invariant.same)) c.in_ok-push-in-Ok.ensures.items c.in-Ok.ensures.whole c.in-Ok.ensures.count in
+    rw (p.1, p.2)
+    (parsing_stops g.S.Source.remaining g.S.Source.failures c.args.sources.now _ at.files.items _ (at.number + 1) next _ _ _
+    (unfailed_still g.S.Source.remaining g.S.Source.failures c.args.sources.now _ at.files.items _ (at.number + 1) next) c.in_err-add_files.ensures.err)
 
 pub loop-number-preserved : goal.loop-number-preserved
 loop-number-preserved g c =
     let at = c.loop-number in
     let sources = slice_set at.sources at.number c.read_whole.new.source in
     let next = ReadSoFar-pushed g.S.Source.remaining g.S.Source.failures c.args.sources.now (λ t. t.items) at.sources at.files.items at.texts.items c.push.new.self.items at.number c.index-sources-number.result c.read_whole.new.source c.in-Ok.text at.invariant
-    (omega (arith, c.loop-number-test.true, at.invariant.same)) c.in_ok-push-in-Ok.ensures.items c.in-Ok.ensures.whole in
+    (omega (arith, c.loop-number-test.true, at.invariant.same)) c.in_ok-push-in-Ok.ensures.items c.in-Ok.ensures.whole c.in-Ok.ensures.count in
     elim c.if-len-workers.branch [
       | then-len-workers+in_ok-add_files w ↦
           rw (w.files-is, w.texts-is, w.new-texts-then-len-workers.ensures.items)
@@ -60,7 +64,9 @@ pub returns-in_err-add_files-2-clause-err : goal.returns-in_err-add_files-2-clau
 returns-in_err-add_files-2-clause-err g c =
     let at = c.loop-number in
     let p = err_from_is_err_and c.from_residual-in_err-add_files-2.result c.from_residual-in_err-add_files-2.ensures.1 in
-    rw (p.1, p.2) (parsing_stops g.S.Source.remaining g.S.Source.failures c.args.sources.now at.sources at.files.items _ at.number at.invariant _ _ _ c.in_err-add_files-2.ensures.err)
+    rw (p.1, p.2)
+    (parsing_stops g.S.Source.remaining g.S.Source.failures c.args.sources.now at.sources at.files.items _ at.number at.invariant _ _ _
+    (unfailed_still g.S.Source.remaining g.S.Source.failures c.args.sources.now at.sources at.files.items _ at.number at.invariant) c.in_err-add_files-2.ensures.err)
 
 pub returns-clause-read : goal.returns-clause-read
 returns-clause-read g c =
@@ -71,3 +77,6 @@ pub returns-clause-under : goal.returns-clause-under
 returns-clause-under g c =
     let at = c.loop-number in
     all_under g.S.Source.remaining g.S.Source.failures c.args.sources.now at.sources at.files.items _ at.number at.invariant c.add_files-2.new.files.items c.in_ok-add_files-2.ensures.ok
+
+pub returns-clause-unfailed : goal.returns-clause-unfailed
+returns-clause-unfailed g c = c.loop-number.invariant.unfailed

@@ -10,7 +10,8 @@ pub returns-in_err-open-clause-err : goal.returns-in_err-open-clause-err
 returns-in_err-open-clause-err c =
     let texts = map (λ (t : Bor (List ℕ)). t.now) c.args.texts.now in
     let p = err_from_is_err_and c.from_residual-in_err-open.result c.from_residual-in_err-open.ensures.1 in
-    rw (p.1, p.2) (or_memory (StopsTexts texts) (StopsQuery c.args.query_text.now texts) (λ e why. inr (inr why)) c.in_err-open.field-0.0 c.in_err-open.ensures.err)
+    rw (p.1, p.2)
+    (or_memory (StopsTexts texts) (StopsQuery c.args.query_text.now texts) (λ e why. inr (inr ((named c.in_ok-read.read, c.in_ok-read.ensures.ok), why))) c.in_err-open.field-0.0 c.in_err-open.ensures.err)
 
 pub returns-clause-err : goal.returns-clause-err
 returns-clause-err c =
