@@ -331,6 +331,27 @@ fn columns_of_another_length_are_no_batch(rt: HostRuntime) {
     }
 }
 
+const SHORT: Node<'static> = node!(b"c", ALONE, 1, 0, [b"", b"\x01", b""]);
+
+const INDICES: Node<'static> = node!(b"c", CODES, 2, 0, [b"", b"\0\x01", b""]);
+
+/// A list of indices, behind a column of one row and before one, and the place of the list.
+static LISTS_OF_INDICES: [Case<usize>; 2] = [
+    (2, &[SHORT, LISTS, INDICES, WORDS], 1),
+    (2, &[LISTS, INDICES, WORDS, SHORT], 0),
+];
+
+#[test]
+fn a_list_of_indices_is_told_before_a_length(rt: HostRuntime) {
+    for (rows, nodes, column) in &LISTS_OF_INDICES {
+        let fault = FlatFault::Layout {
+            column: *column,
+            fault: ChildDiffers,
+        };
+        expect_fault(&rt, rt.alloc(), *rows, *nodes, fault);
+    }
+}
+
 /// The second column's name is no text.
 static NAMED: [Node<'static>; 2] = [
     NUMBERS,

@@ -1,11 +1,13 @@
 //! Columns added to a table in use.
 
 use crate::batches::{ONE_AND_TWO, THREE, THREE_AND_X};
-use crate::facts::{Cell, Fact, Facts, Stats};
-use crate::scenes::{Column, End, Flat, Group, Scene, Step, expect};
-use shared::{AddFault, Refusal};
+use crate::facts::{Cell, Fact, Facts, Stats, shows_all};
+use crate::scenes::{Column, End, Flat, Group, Scene, Step, expect, field_of};
+use shared::{AddFault, Refusal, TableState, Version};
+use std::alloc::Global;
+use std::sync::Arc;
 use std::test::Fail;
-use test_samples::{Batch, INT8, INT64, Sample, Shown, UINT16};
+use test_samples::{Batch, INT8, INT64, Sample, Shown, UINT16, batch_of, fields_of};
 
 /// Texts, numbers and large texts.
 const M: Column = ("m", true, 0, Flat::Utf8);
@@ -253,4 +255,72 @@ pub(crate) static TYPED: [Scene; 2] = [
 #[test]
 fn columns_of_each_type_are_added(rt: HostRuntime) -> Result<(), Fail> {
     expect(&rt, rt.alloc(), Group::Typed)
+}
+
+/// A version of a table to which 1 and 2 were appended.
+fn narrow(alloc: Global) -> Result<Arc<Version>, Fail> {
+    let mut table = TableState::new(alloc, fields_of(alloc, ONE_AND_TWO)?)?;
+    table.admit(0, &batch_of(alloc, ONE_AND_TWO)?)?;
+    Ok(table.version()?)
+}
+
+/// The same with a column of texts, and one of numbers behind it.
+const NO_X_AND_NO_NUMBER: Facts = &[
+    Fact::Fields(3),
+    Fact::Book(&[(0, 2)]),
+    Fact::Sizes(&[2]),
+    Fact::Column(0, 0, Shown::Numbers(&[Some(1), Some(2)])),
+    Fact::Column(0, 1, Shown::Named(&[None, None])),
+    Fact::Column(0, 2, Shown::Numbers(&[None, None])),
+    Fact::Exported(0, 2, Shown::Numbers(&[None, None])),
+    Fact::Words(1, Some(Shown::Texts(&[]))),
+    Fact::Words(2, None),
+    Fact::Stats(0, (2, 0, Some(3), Cell::Int(1), Cell::Int(2))),
+    Fact::Stats(1, NO_VALUES),
+    Fact::Stats(2, NO_NUMBERS),
+    Fact::BatchStats(0, 2, NO_NUMBERS),
+];
+
+#[test]
+fn a_version_is_given_columns_behind_its_own(rt: HostRuntime) -> Result<(), Fail> {
+    let alloc = rt.alloc();
+    let version = narrow(alloc)?;
+    let wider = version.with_column(alloc, &field_of(alloc, M)?)?;
+    let widest = wider.with_column(alloc, &field_of(alloc, L)?)?;
+    assert!(rt; shows_all(alloc, &*widest, NO_X_AND_NO_NUMBER));
+    assert!(rt; has_names(&*widest, &["n", "m", "l"]));
+    // The versions that it was made of stay as they were.
+    assert!(rt; shows_all(alloc, &*wider, NO_X) && has_names(&*wider, &["n", "m"]));
+    assert!(rt; shows_all(alloc, &*version, NARROW) && has_names(&*version, &["n"]));
+    Ok(())
+}
+
+/// Whether the fields have these names.
+fn has_names(version: &Version, names: &[&str]) -> bool {
+    let fields = version.schema().fields();
+    fields
+        .iter()
+        .map(|field| field.name.as_str())
+        .eq(names.iter().copied())
+}
+
+/// Columns that no version is given, and why.
+static REFUSED: [(Column, AddFault); 5] = [
+    (("m", true, 1, Flat::Dict), AddFault::DictInList),
+    (("m", true, 8, Flat::Dict), AddFault::DictInList),
+    (("m", true, 9, Flat::Dict), AddFault::TooDeep),
+    (("m", false, 9, Flat::Dict), AddFault::NotNullable),
+    (("m", false, 0, Flat::Dict), AddFault::NotNullable),
+];
+
+#[test]
+fn a_version_is_given_no_column_that_a_table_refuses(rt: HostRuntime) -> Result<(), Fail> {
+    let alloc = rt.alloc();
+    let version = narrow(alloc)?;
+    for (column, fault) in &REFUSED {
+        let refused = version.with_column(alloc, &field_of(alloc, *column)?).err();
+        assert!(rt; refused == Some(*fault), "{refused:?} for {fault:?}");
+        assert!(rt; shows_all(alloc, &*version, NARROW));
+    }
+    Ok(())
 }

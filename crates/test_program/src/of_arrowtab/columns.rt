@@ -132,7 +132,13 @@ fn expect_fault(
 
 /// Queries with fields, files, and which of their faults is reported: the query is read first, then the field, then the file, and
 /// the column is added last.
-static FIRST: [Case; 5] = [
+static FIRST: [Case; 6] = [
+    (
+        &["arrowtab", "query", "--query", "{", "A"],
+        "{",
+        None,
+        "arrowtab: query: J1 NotJson\n",
+    ),
     (
         &[
             "arrowtab",

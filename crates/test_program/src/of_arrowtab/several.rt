@@ -33,7 +33,7 @@ const CUT: &str =
     r#"{"schema":{"fields":[{"name":"n","nullable":false,"type":{"name":"int","bitWidth":8,"isSigned":true}"#;
 
 /// Two files, and what is reported of them.
-static RUNS: [Case; 5] = [
+static RUNS: [Case; 6] = [
     (
         STATS,
         FIVE_AND_SEVEN,
@@ -62,6 +62,8 @@ static RUNS: [Case; 5] = [
     ),
     // All files are read before a batch is added.
     (STATS, NULL, Some(CUT), "arrowtab: B: J1 NotJson\n"),
+    // The first of two faults is reported.
+    (STATS, CUT, Some("[]"), "arrowtab: A: J1 NotJson\n"),
 ];
 
 #[test]
