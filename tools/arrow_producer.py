@@ -49,7 +49,7 @@ class Column:
 
     def __init__(self, name, kind, values, offset=0, is_bare=False, count_known=True):
         self.name, self.kind, self.offset, self.length = name, kind, offset, len(values)
-        self.children, self.dictionary = [], None
+        self.children, self.dictionary, self._blocks = [], None, None
         junk = [None] * offset
         slots = junk + list(values)
         nulls = sum(it is None for it in values)
@@ -68,7 +68,8 @@ class Column:
             self.format = FORMATS[coded[1]]
             entries = list(dict.fromkeys(it for it in reversed(slots) if it is not None))
             self.dictionary = Column("", "utf8", entries, offset=2, is_bare=True)
-            return [b"".join(self._number(coded[1], 0 if it is None else entries.index(it)) for it in slots)]
+            codes = {entry: code for code, entry in enumerate(entries)}
+            return [b"".join(self._number(coded[1], codes.get(it, 0)) for it in slots)]
         self.format = FORMATS[self.kind]
         if self.kind == "bool":
             return [bits(slots)]
@@ -76,6 +77,12 @@ class Column:
             texts = [b"" if it is None else it.encode() for it in slots]
             return [offsets(4 if self.kind == "utf8" else 8, texts), b"".join(texts)]
         return [b"".join(self._number(self.kind, it or 0) for it in slots)]
+
+    def blocks(self):
+        """The buffers as blocks of memory, the same in each batch."""
+        if self._blocks is None:
+            self._blocks = [None if it is None else c.create_string_buffer(it, max(len(it), 1)) for it in self.buffers]
+        return self._blocks
 
     @staticmethod
     def _number(kind, number):
@@ -112,7 +119,7 @@ class Producer:
 
     def array(self, column):
         made = Array(column.length, column.null_count, column.offset, len(column.buffers), len(column.children))
-        held = [None if it is None else c.create_string_buffer(it, max(len(it), 1)) for it in column.buffers]
+        held = column.blocks()
         places = (c.c_void_p * len(held))(*(None if it is None else c.addressof(it) for it in held))
         self.kept += [held, places]
         made.buffers = places

@@ -1,8 +1,8 @@
 #!/usr/bin/env python3
 """Runs `arrowtab` on files from strangers, each run under a limit of memory and of processor time: small ones that would cost much
 where an array, a schema or a dictionary were copied each time that it is named or grows; some in which a member comes many times, or many of a sort, in the time that
-their size allows; some that state 2147483647 where a count or an offset stands, and hold nothing; files that are cut, that are none, or whose fault has a place; ends that aren't files;
-first rows and groups that are large; and queries from files and standard input.
+their size allows; some that state 2147483647 where a count or an offset stands, and hold nothing; files that are cut, that are none, or whose fault has a place; many files of 1 MB;
+ends that aren't files; first rows and groups that are large; and queries from files and standard input.
 
     tools/hostile_files.py PROGRAM
 
@@ -479,6 +479,13 @@ class Runs:
         path = self.file(json.dumps(document)[:-1])
         self.expect("a million numbers without the last brace", self.run([path], 80), path, "J1 NotJson")
 
+    def windows(self):
+        """Far more bytes of files than there is memory for: a worker's window is one file, whose bytes are gone before the next is read."""
+        path = self.file(put(A, ('{"schema"', '{"x":"' + "x" * MEGABYTE + '","schema"')))
+        count = 500
+        wanted = f'rows {3 * count}\nworker 0 calls {count} rows {3 * count}\n"n" int64 rows={3 * count} nulls={count} sum={(2 ** 63 - 2) * count} least=-1 greatest={2 ** 63 - 1}\n'
+        self.expect(f"{count} files of 1 MB", self.run([path] * count, seconds=20, command=("stats", "--workers", "1")), path, wanted)
+
     def ends(self):
         """Sources that can't be read, and outputs that take nothing."""
         for name in (self.room, os.path.join(self.room, "nothing"), "/proc/self/mem"):
@@ -588,6 +595,7 @@ def main():
             path = runs.file(data)
             runs.expect(name, runs.run([path]), path, wanted)
         runs.cuts()
+        runs.windows()
         runs.ends()
         runs.columns()
         runs.rows()

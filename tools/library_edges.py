@@ -184,10 +184,18 @@ def run_interrupt(selqumar):
     from arrow_producer import Column, Exporter, Producer
     columns = [Column("n", "int8", [1])]
     producer = Producer()
-    source = endless(producer, columns, lambda _: time.sleep(0.001))
+    source = endless(producer, columns, lambda _: None)
     table = selqumar.Table({"n": "int8"})
-    signal.signal(signal.SIGALRM, lambda *_: os.kill(os.getpid(), signal.SIGINT))
-    signal.setitimer(signal.ITIMER_REAL, 0.5)
+    folder = os.path.dirname(selqumar.__file__)
+
+    def interrupt(_, frame):
+        """As Ctrl-C. What is raised in a producer of ctypes, or where a part is let go of, is lost there, so that it waits for other lines of the module."""
+        if os.path.dirname(frame.f_code.co_filename) == folder and frame.f_code.co_name not in ("let_go", "__del__"):
+            signal.setitimer(signal.ITIMER_REAL, 0)
+            raise KeyboardInterrupt
+
+    signal.signal(signal.SIGALRM, interrupt)
+    signal.setitimer(signal.ITIMER_REAL, 0.5, 0.001)
     began = time.monotonic()
     kind, _ = raised(table.append, Exporter(stream=source))
     rows = table.query(ROWS)[0][0]

@@ -18,6 +18,10 @@ def refused(fault, column=0):
     return f"1 arrowtab: {fault} column={column}\n"
 
 
+def no_array(fault):
+    return OPENED + f"1 arrowtab: X6 Layout column=0: {fault}\n"
+
+
 WANTED = {
     "released_schema": refused("E7 Released"),
     "released_field": refused("E7 Released"),
@@ -40,19 +44,19 @@ WANTED = {
     "itself": refused("X3 ChildrenDiffer"),
     "no_format": refused("X2 UnknownFormat"),
     "no_children_in_array": OPENED + refused("E3 ChildrenDiffer"),
-    "no_buffers": OPENED + refused("X6 Layout V1 MissingBuffer"),
-    "fewer_buffers": OPENED + refused("X6 Layout V1 MissingBuffer"),
+    "no_buffers": no_array("V3 BufferTooShort"),
+    "fewer_buffers": no_array("V3 BufferTooShort"),
     "offsets_of_no_byte": OPENED + OPENED,
-    "offsets_below_0": OPENED + refused("X6 Layout V4 OffsetNegative"),
-    "offsets_that_decrease": OPENED + refused("X6 Layout V5 OffsetDecreases row=1"),
-    "offsets_that_end_before": OPENED + refused("X6 Layout V5 OffsetDecreases row=0"),
-    "texts_that_are_absent": OPENED + refused("X6 Layout V6 OffsetPastEnd"),
+    "offsets_below_0": no_array("V4 OffsetNegative"),
+    "offsets_that_decrease": no_array("V5 OffsetDecreases row=1"),
+    "offsets_that_end_before": no_array("V5 OffsetDecreases row=0"),
+    "texts_that_are_absent": no_array("V6 OffsetPastEnd"),
     "offsets_past_memory": OPENED + refused("E5 OutOfRange"),
-    "lists_past_their_items": OPENED + refused("X6 Layout V6 OffsetPastEnd"),
-    "lists_that_begin_past_their_items": OPENED + refused("X6 Layout V6 OffsetPastEnd"),
+    "lists_past_their_items": no_array("V6 OffsetPastEnd"),
+    "lists_that_begin_past_their_items": no_array("V6 OffsetPastEnd"),
     "lists_without_a_row": OPENED + OPENED,
     "items_below_0": OPENED + refused("E5 OutOfRange"),
-    "index_past_dictionary": OPENED + refused("X6 Layout V9 IndexPastDictionary row=1"),
+    "index_past_dictionary": no_array("V9 IndexPastDictionary row=1"),
     "dictionary_below_0": OPENED + refused("E5 OutOfRange"),
     "stream_twice": OPENED + "0\n2 batches, 8 rows, 1 released\n1 arrowtab: E7 Released\n0 batches, 0 rows, 1 released\n",
     "own_stream_twice": OPENED + "0\n0\n0\n1 arrowtab: E7 Released\n",
@@ -75,7 +79,7 @@ def difference(found, wanted):
 def cases(archive, folder):
     """The cases over the library of this archive; what stands in c/ is compiled anew, with sanitizers."""
     with open(os.path.join(TOP, "tools", "hostile.c"), encoding="utf-8") as file:
-        names = re.findall(r"\bCASE\((\w+)\)[,\s]", file.read())
+        names = re.findall(r"\bCASE\((\w+)\),", file.read())
     yield "the cases of hostile.c", difference(sorted(names), sorted(WANTED))
     out = os.path.join(folder, "hostile")
     words = ["-std=c11", "-Wall", "-Wextra", "-Wpedantic", "-Werror", "-pthread", f"-I{TOP}/include", os.path.join(TOP, "tools", "hostile.c"),

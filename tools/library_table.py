@@ -439,11 +439,11 @@ def hostile_cases(selqumar):
                 yield f"{rows} rows of {count} nodes", "they were taken" if not found else "they left a trace"
         with columns.nodes(parts) as nodes:
             yield "nodes that don't lie", difference(outcome(library, table, 3, nodes, len(parts)), None)
-        # A dictionary lies in a list, and a column has more rows than the batch: the schema's fault is told.
+        # A dictionary lies in a list, and a column has more rows than the batch: the list's fault is told.
         inside = columns.parts_of_columns([("l", "list<int32>", [[0], [1], []]), ("t", "utf8", ["a", "b"]), ("n", "int32", [1, 2, 3, 4])])
         with columns.nodes(inside) as nodes:
             nodes[1].dictionary = 1
-            yield "a schema's fault before a batch's", difference(outcome(library, table, 3, nodes, len(inside)), "arrowtab: C2 DictInList column=0")
+            yield "an array's fault before a batch's", difference(outcome(library, table, 3, nodes, len(inside)), "arrowtab: X6 Layout column=0: V10 ChildDiffers")
     yield "wrong nodes", None if tried >= 200 else f"only {tried}"
 
 
